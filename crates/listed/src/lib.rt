@@ -1,0 +1,50 @@
+//! A `Vec` that contracts see as the plain list of its items.
+//!
+//! A public type whose values are compared with those of a definition holds its lists in this type, so that two values
+//! are equal exactly where their lists are, whatever capacity or place in memory the vectors behind them have.
+#![tactic(auto)]
+
+ghost use Rattle.std.specs.Prelude.{◌≡◌, List};
+
+use std::marker::Model;
+
+/// A list of items that is made once from a `Vec` and then only read.
+#[derive(Drop, Debug)]
+pub struct Listed<T> {
+    vec: Vec<T>,
+}
+
+impl<T> Model for Listed<T> {
+    ghost Value = { List T };
+
+    ghost view = { λ list. list.vec.items };
+}
+
+impl<T> Listed<T> {
+    /// The list of the items of `items`, in their order. Takes no memory.
+    pub fn of(items: Vec<T>) -> Self
+        ensures { result ≡ items.items }
+    {
+        Listed { vec: items }
+    }
+
+    /// The items, in order. Takes no memory.
+    pub fn items(&self) -> &[T]
+        ensures { result.now ≡ self.now }
+    {
+        self.vec.as_slice()
+    }
+}
+
+#[cfg(test)]
+mod tests {
+    use super::*;
+    use std::test::Fail;
+
+    #[test]
+    fn keeps_the_items_in_order(rt: HostRuntime) -> Result<(), Fail> {
+        let list = Listed::of([3u8, 1, 3].to_vec(rt.alloc())?);
+        assert_eq!(rt; list.items(), [3u8, 1, 3].as_slice());
+        Ok(())
+    }
+}
