@@ -1,0 +1,10 @@
+pub mod State
+pub mod Causes
+pub mod Calls
+pub mod Texts
+pub mod FaultCounts
+pub mod Plan
+pub mod Requests
+pub mod Opened
+pub mod MemoryDesk
+pub mod RealDesk

@@ -1,0 +1,151 @@
+ghost use Rattle.std.specs.Prelude.{◌≡◌, ◌↔◌, ◌∷◌, ℤ, pos, ◌-ℤ◌, ◌<ℤ◌, ◌≤ℤ◌, IsTrue, IfOk, All};
+ghost use Rattle.set_meaning.specs.Sets.{IsAscending, IsSetOf, Has, EitherHas, IsSubset, IsUnion, ascending_set, count_between, integers_between};
+
+use std::alloc::{AllocError, Global};
+use std::marker::Model;
+
+/// A finite set of integers. Contracts see it as the ascending list of its elements.
+#[derive(Drop, Debug)]
+pub struct SetValue {
+    elements: Vec<i64>,
+}
+
+impl Model for SetValue {
+    ghost use Rattle.std.specs.Prelude.{List, ℤ};
+    ghost use Rattle.set_meaning.specs.Sets.{IsAscending};
+
+    ghost Value = { List ℤ };
+
+    ghost view = { λ set. set.elements.items };
+
+    ghost invariant = { λ set. IsAscending set.elements.items };
+}
+
+impl SetValue {
+    /// The set of the listed integers, which may stand in any order and more than once.
+    pub fn from_list(alloc: Global, items: &[i64]) -> Result<SetValue, AllocError>
+        ensures set { IfOk result (IsSetOf items.now) }
+        ensures exact { IfOk result (λ set. set ≡ ascending_set items.now) }
+    {
+        let mut elements = Vec::from_slice(alloc, items)?;
+        elements.sort_unstable();
+        elements.dedup();
+        Ok(SetValue { elements })
+    }
+
+    /// The set of all integers from `lo` to `hi`, both included. It is empty where `lo` is above `hi`.
+    pub fn from_range(alloc: Global, lo: i64, hi: i64) -> Result<SetValue, AllocError>
+        requires { (hi -ℤ lo) <ℤ pos 65536 }
+        ensures ascending { IfOk result IsAscending }
+        ensures members { IfOk result (λ set. (x : ℤ) → Has set x ↔ ((lo ≤ℤ x) × (x ≤ℤ hi))) }
+        ensures exact { IfOk result (λ set. set ≡ integers_between lo hi) }
+    {
+        let mut elements = Vec::new(alloc);
+        let count = count_between(lo, hi);
+        for offset in 0..count {
+            elements.push(lo + i64::from(offset))?;
+        }
+        Ok(SetValue { elements })
+    }
+
+    /// An equal set, with memory of its own.
+    pub fn copy(&self, alloc: Global) -> Result<SetValue, AllocError>
+        ensures { IfOk result (λ copy. copy ≡ self.now) }
+    {
+        let elements = Vec::from_slice(alloc, self.elements.as_slice())?;
+        Ok(SetValue { elements })
+    }
+
+    /// The set with one more element, which is below all others.
+    pub(crate) fn with_least(&self, alloc: Global, least: i64) -> Result<SetValue, AllocError>
+        requires { IsAscending (least ∷ self.now) }
+        ensures { IfOk result (λ set. set ≡ least ∷ self.now) }
+    {
+        let mut elements = Vec::new(alloc);
+        elements.push(least)?;
+        elements.extend_from_slice(self.elements.as_slice())?;
+        Ok(SetValue { elements })
+    }
+
+    /// The elements, ascending.
+    pub fn elements(&self) -> &[i64]
+        ensures same { result.now ≡ self.now }
+        ensures ascending { IsAscending result.now }
+    {
+        self.elements.as_slice()
+    }
+
+    /// Whether `x` is an element, by binary search.
+    pub fn has(&self, x: i64) -> bool
+        ensures { IsTrue result ↔ Has self.now x }
+    {
+        match self.elements.binary_search(&x) {
+            Ok(_) => true,
+            Err(_) => false,
+        }
+    }
+
+    /// Whether each element is one of `other`.
+    pub fn is_subset(&self, other: &SetValue) -> bool
+        ensures { IsTrue result ↔ IsSubset self.now other.now }
+    {
+        all_in(self.elements(), other)
+    }
+
+    /// Whether the elements are those of `a` and those of `b`, and no others.
+    pub fn is_union_of(&self, a: &SetValue, b: &SetValue) -> bool
+        ensures { IsTrue result ↔ IsUnion a.now b.now self.now }
+    {
+        if !a.is_subset(self) {
+            return false;
+        }
+        if !b.is_subset(self) {
+            return false;
+        }
+        all_in_either(self.elements(), a, b)
+    }
+}
+
+fn all_in(items: &[i64], set: &SetValue) -> bool
+    ensures { IsTrue result ↔ All (Has set.now) items.now }
+{
+    items.iter().all(|x| set.has(*x))
+}
+
+fn all_in_either(items: &[i64], a: &SetValue, b: &SetValue) -> bool
+    ensures { IsTrue result ↔ All (EitherHas a.now b.now) items.now }
+{
+    items.iter().all(|x| in_either(*x, a, b))
+}
+
+#[tactic(auto, unfolding(crate::specs::Sets::EitherHas))]
+fn in_either(x: i64, a: &SetValue, b: &SetValue) -> bool
+    ensures { IsTrue result ↔ EitherHas a.now b.now x }
+{
+    a.has(x) || b.has(x)
+}
+
+/// How many integers there are from `lo` to `hi`, both included.
+fn count_between(lo: i64, hi: i64) -> u32
+    requires { (hi -ℤ lo) <ℤ pos 65536 }
+    ensures { result ≡ count_between lo hi }
+{
+    if hi < lo { 0 } else { (hi - lo + 1) as u32 }
+}
+
+#[cfg(test)]
+mod tests {
+    use super::*;
+    use std::test::Fail;
+
+    #[test]
+    fn makes_sets(rt: HostRuntime) -> Result<(), Fail> {
+        let listed = SetValue::from_list(rt.alloc(), [3, -2, 3, 1].as_slice())?;
+        assert_eq!(rt; listed.elements(), [-2, 1, 3].as_slice());
+        let range = SetValue::from_range(rt.alloc(), -1, 2)?;
+        assert_eq!(rt; range.elements(), [-1, 0, 1, 2].as_slice());
+        let empty = SetValue::from_range(rt.alloc(), 1, 0)?;
+        assert!(rt; empty.elements().is_empty());
+        Ok(())
+    }
+}
