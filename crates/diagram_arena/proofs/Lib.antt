@@ -1,0 +1,9 @@
+pub mod Ids
+pub mod Meaning
+pub mod Canonical
+pub mod Parts
+pub mod Reach
+pub mod Growth
+pub mod Kept
+pub mod Index
+pub mod States

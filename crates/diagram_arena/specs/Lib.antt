@@ -1,0 +1,5 @@
+pub mod Table
+pub mod Part
+pub mod Reach
+pub mod Arena
+pub mod Body

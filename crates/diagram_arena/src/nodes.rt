@@ -1,0 +1,71 @@
+//! Nodes, and the names by which they are reached.
+ghost use Rattle.std.specs.Prelude.{◌≡◌, false};
+
+use std::alloc::AllocError;
+use std::convert::From;
+
+/// The name of a node of one arena. It says nothing of when the node was made.
+#[derive(Clone, Copy, PartialEq, Eq, PartialOrd, Ord, Hash, Debug)]
+pub struct NodeId(pub(crate) usize);
+
+/// A set of words: the empty one, that of all words, or that of a node.
+#[derive(Clone, Copy, PartialEq, Eq, PartialOrd, Ord, Hash, Debug)]
+pub enum Ref {
+    Zero,
+    One,
+    Node(NodeId),
+}
+
+/// What a node means: the words whose `bit` is false and that lie in `lo`, and those whose `bit` is
+/// true and that lie in `hi`.
+#[derive(Clone, Copy, PartialEq, Eq, Hash, Debug)]
+pub struct Triple {
+    pub bit: u32,
+    pub lo: Ref,
+    pub hi: Ref,
+}
+
+/// A node as it is stored. The mark and the tag belong to the caller and change no meaning.
+#[derive(Clone, Copy, Debug)]
+pub struct Node {
+    pub bit: u32,
+    pub lo: Ref,
+    pub hi: Ref,
+    pub mark: bool,
+    pub tag: u64,
+}
+
+impl Node {
+    /// A node at its birth: it has no mark, and the tag 0.
+    pub(crate) fn new(triple: Triple) -> Node
+        ensures { result ≡ record { bit = triple.bit; lo = triple.lo; hi = triple.hi; mark = false; tag = 0 } }
+    {
+        Node {
+            bit: triple.bit,
+            lo: triple.lo,
+            hi: triple.hi,
+            mark: false,
+            tag: 0,
+        }
+    }
+}
+
+/// Why a node was not made.
+#[derive(Clone, Copy, PartialEq, Eq, Debug)]
+pub enum Stop {
+    /// A new node is needed, and the arena holds as many nodes as its limit allows.
+    Full,
+    /// There is no memory for it.
+    Memory,
+}
+
+impl From<AllocError> for Stop {
+    ghost use Rattle.diagram_arena.specs.declared.nodes.Stop.{Stop};
+    ghost use Rattle.diagram_arena.specs.declared.nodes.Stop.TheVariants.{Memory};
+
+    ghost from_gives = { λ e s. s ≡ Memory };
+
+    fn from(_: AllocError) -> Stop {
+        Stop::Memory
+    }
+}

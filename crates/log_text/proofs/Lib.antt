@@ -1,0 +1,6 @@
+mod LineLaws
+mod NumberLaws
+mod PieceLaws
+mod ReadLaws
+mod WordLaws
+mod WriteLaws

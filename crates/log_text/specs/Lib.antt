@@ -1,0 +1,5 @@
+pub mod Begins
+pub mod Decimal
+pub mod Kind
+pub mod Pieces
+pub mod Spelling

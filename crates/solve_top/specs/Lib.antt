@@ -1,0 +1,6 @@
+pub mod Block
+pub mod Enumeration
+pub mod Answers
+pub mod Words
+pub mod Endings
+pub mod Run

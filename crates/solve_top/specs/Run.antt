@@ -1,0 +1,104 @@
+-- What a run leaves behind, over every desk (this project's own).
+use Rattle.std.specs.Prelude.{◌≡◌, ◌<◌, ◌⊎◌, ℕ, List, [], ◌∷◌, ◌++◌, length, take, IfSome, IsSomeAnd, Option, Some, None}
+use Rattle.std.specs.Option.{option_map}
+use Rattle.desk.specs.declared.outside.Asked.{Asked}
+use Rattle.desk.specs.declared.outside.Asked.TheVariants as asked
+use Rattle.desk.specs.declared.outside.Slot.TheVariants as slot
+use Rattle.desk.specs.declared.outside.To.TheVariants as to
+use Rattle.desk.specs.State.{State, written}
+use Rattle.desk.specs.Causes.{Faults, Rose}
+use Rattle.desk.specs.Texts.{WritesFront}
+use Rattle.solve_top.specs.declared.solving.Status.{Status}
+use Rattle.solve_top.specs.declared.solving.Status.TheVariants as status
+use Rattle.solve_top.specs.Answers.{IsAnsweredBy, NotFirstForm}
+use Rattle.solve_top.specs.Endings.{usage_line, not_first_form_line, read_fault_line, memory_lines}
+
+-- ---- the outside
+
+-- where the desk tells its files there is one of this name, and this holds of its bytes
+abbrev pub OfFile : List ℕ → State → (List ℕ → Type 0) → Type 0
+OfFile name s P = IfSome s.files (λ find. IsSomeAnd (find name) P)
+
+-- Of several calls together: a front of these begin calls was asked, Out grew by these bytes, and the files are the same.
+pub record Leaves (begins : List (Asked × List ℕ)) (bytes : List ℕ) (old new : State) : Type 0 where
+  pub asked : (k : ℕ) × (new.asked ≡ old.asked ++ take k begins)
+  pub out : new.out ≡ option_map (λ xs. xs ++ bytes) old.out
+  pub files : new.files ≡ old.files
+
+-- At most the model was asked for, and no log was begun.
+pub record LeavesModel (name bytes : List ℕ) (old new : State) : Type 0 where
+  pub leaves : Leaves ((asked.Read slot.Model, name) ∷ []) bytes old new
+  pub log : new.log ≡ old.log
+  pub log_read : new.log_read ≡ old.log_read
+
+-- The counts of faults before a run and after it, by its status: no call of the desk failed but where the status says so.
+abbrev pub Causes : Status → Faults → Faults → Type 0
+Causes status.ReadFault f g = Rose f.reads g.reads × (g.writes ≡ f.writes)
+Causes status.WriteFault f g = Rose f.writes g.writes × ((g.reads ≡ f.reads) ⊎ Rose f.reads g.reads)
+Causes status.Done f g = g ≡ f
+Causes status.Words f g = g ≡ f
+Causes status.File f g = g ≡ f
+Causes status.Memory f g = g ≡ f
+
+-- ---- the two steps of a run
+
+-- what a status and the bytes to be printed say of the run of a model's file. The counts of failed reads are those
+-- before the run and after it.
+abbrev pub Ends : List ℕ → State → ℕ → ℕ → Status → List ℕ → Type 0
+Ends name old before now status.Done out = (now ≡ before) × OfFile name old (λ text. IsAnsweredBy text out)
+Ends name old before now status.File out = (now ≡ before) × OfFile name old NotFirstForm × (out ≡ not_first_form_line)
+Ends name old before now status.ReadFault out = Rose before now × (out ≡ read_fault_line)
+Ends name old before now status.Memory out = (now ≡ before) × (out ≡ memory_lines)
+Ends name old before now _ out = ⊥
+
+-- The model's file was read, or not, and the run is to end so. Nothing was printed yet.
+pub record Reads (name : List ℕ) (old new : State) (f g : Faults) (s : Status) (out : List ℕ) : Type 0 where
+  pub leaves : LeavesModel name [] old new
+  pub ends : Ends name old f.reads g.reads s out
+  pub causes : Causes s f g
+
+-- The usage line is to be printed, and nothing was touched.
+pub record RefusesWords (old new : State) (f g : Faults) (s : Status) (out : List ℕ) : Type 0 where
+  pub status : s ≡ status.Words
+  pub text : out ≡ usage_line
+  pub state : new ≡ old
+  pub faults : g ≡ f
+
+-- the first step, by the name of the model's file, if the words have one
+abbrev pub Begins : Option (List ℕ) → State → State → Faults → Faults → Status → List ℕ → Type 0
+Begins None = RefusesWords
+Begins (Some name) = Reads name
+
+-- Only a front of the bytes was printed, and then writing has failed.
+pub record PrintsFront (out : List ℕ) (old new : State) (f g : Faults) : Type 0 where
+  pub rose : Rose f.writes g.writes
+  pub front : WritesFront to.Out out old new
+  pub reads : g.reads ≡ f.reads
+
+-- The bytes were printed, and the status is the one that they belong to.
+pub record PrintsAll (s : Status) (out : List ℕ) (old new : State) (f g : Faults) (result : Status) : Type 0 where
+  pub status : result ≡ s
+  pub state : new ≡ written to.Out out old
+  pub faults : g ≡ f
+
+-- the second step
+abbrev pub Prints : Status → List ℕ → State → State → Faults → Faults → Status → Type 0
+Prints s out old new f g status.WriteFault = PrintsFront out old new f g
+Prints s out old new f g result = PrintsAll s out old new f g result
+
+-- ---- a whole run
+
+-- Writing has failed: what was printed is a front of what another status would have printed.
+abbrev pub IsCutShort : List ℕ → State → State → Faults → Faults → Type 0
+IsCutShort name old new f g =
+    Rose f.writes g.writes × ((s : Status) × ((out : List ℕ)
+    × (Ends name old f.reads g.reads s out × ((n : ℕ) × ((n < length out) × LeavesModel name (take n out) old new)))))
+
+-- What a run means, by the name of the model's file, if the words have one, and by its status.
+-- With no such name the usage line is printed, and nothing else is touched.
+abbrev pub RunMeans : Option (List ℕ) → State → State → Faults → Faults → Status → Type 0
+RunMeans None old new f g status.Words = new ≡ written to.Out usage_line old
+RunMeans None old new f g status.WriteFault = Rose f.writes g.writes × WritesFront to.Out usage_line old new
+RunMeans None old new f g _ = ⊥
+RunMeans (Some name) old new f g status.WriteFault = IsCutShort name old new f g
+RunMeans (Some name) old new f g s = (out : List ℕ) × (Ends name old f.reads g.reads s out × LeavesModel name out old new)
