@@ -2,7 +2,7 @@
 -- Source: this project's own.
 use Rattle.std.specs.Prelude.{◌≡◌, ℕ, ◌<◌, ◌==◌, nat_lt, Bool, true, false, cond, ◌&&◌, List, [], ◌∷◌, length, slice_index_or, refl}
 use Rattle.std.proofs.Common.{sym, ◌∙◌, inl, inr, subst}
-use Rattle.std.proofs.lemmas.Bool.{or_cases, eqb-true, lt-ltb, cond-true, both_ways}
+use Rattle.std.proofs.lemmas.Bool.{ltb-true, and_parts, or_cases, eqb-true, lt-ltb, cond-true, both_ways}
 use Rattle.std.proofs.Math.Path.{fun_ext}
 use Rattle.search_rules.specs.Problem.{Problem, IsAmong, Extends}
 use Rattle.plain_steps.specs.Sets.{has, family}
@@ -51,6 +51,7 @@ problem_of p = record {
   listed = listed_from_family p.sets;
   constraints = p.count;
   scope = is_scoped p;
+  scoped = λ c v is. ltb-true v (length p.sets) (and_parts (p.scope c v) (nat_lt v (length p.sets)) is).1;
   holds = λ c a. p.holds c (masked p c a) ≡ true;
   reads = λ c a b same is. subst (λ m. p.holds c m ≡ true) (masked_same p c a b same) is;
   decides = λ f v s. Unit {0};

@@ -208,16 +208,21 @@ turn_legal {X} {p} {boxes} {answers} {es} {f} {b} {l} {v} {k} legal d level = re
     stop : IsStop p boxes es f b l v
     stop = stop_of legal.trail d
 
--- an answer box added: the answer is given, and its box holds only solutions that it covers
+-- a further answer
 pub answer_legal : {X : Type 0} {p : Problem X} {boxes : List (Stored X)} {answers : List (ℕ → X)} {es : List (Entry X)} {f : ℕ → X → Bool}
-    (answer : ℕ → X) (b : ℕ → X → Bool) → IsLegal p answers boxes es f
-    → ((a : ℕ → X) → IsSolution p a → IsWithin b a → IsCovered p (answer ∷ answers) a)
-    → IsLegal p (answer ∷ answers) (record { sides = b; learned = false } ∷ boxes) es f
-answer_legal {X} {p} {boxes} {answers} {es} {f} answer b legal covered = record {
+    (answer : ℕ → X) → IsLegal p answers boxes es f → IsLegal p (answer ∷ answers) boxes es f
+answer_legal answer legal =
+    record { trail = legal.trail; safe = λ c stored a solution within. inr (legal.safe c stored a solution within); walked = legal.walked }
+
+-- a safe box stored, unmarked
+pub safe_box_legal : {X : Type 0} {p : Problem X} {boxes : List (Stored X)} {answers : List (ℕ → X)} {es : List (Entry X)} {f : ℕ → X → Bool}
+    (b : ℕ → X → Bool) → IsLegal p answers boxes es f → IsSafe p answers b
+    → IsLegal p answers (record { sides = b; learned = false } ∷ boxes) es f
+safe_box_legal {X} {p} {boxes} {answers} {es} {f} b legal safe = record {
   trail = record { replays = legal.trail.replays; reasons = reasons_with_answer p boxes b es f legal.trail.reasons };
   safe = λ c stored. elim stored [
-    | inl this ↦ subst (λ (q : ℕ → X → Bool). IsSafe p (answer ∷ answers) q) this covered
-    | inr earlier ↦ λ a solution within. inr (legal.safe c earlier a solution within)
+    | inl this ↦ subst (λ (q : ℕ → X → Bool). IsSafe p answers q) this safe
+    | inr earlier ↦ legal.safe c earlier
   ];
   walked = ((λ learned. absurd (false≢true learned)), legal.walked);
 }

@@ -82,7 +82,7 @@ steps_keep_solution a solution (next {c} steps known part) =
     })
 
 -- single values that every step leaves as they are satisfy each constraint
-pub single_solves : {X : Type 0} (p : Problem X) (f : ℕ → X → Bool) (a : ℕ → X) → AllLie f p.initial → IsSingle f a
+pub single_solves : {X : Type 0} (p : Problem X) (f : ℕ → X → Bool) (a : ℕ → X) → AllLie f p.initial → IsSingle p f a
     → ((c : ℕ) → c < p.constraints → IsLeft p c f)
     → ((c : ℕ) → c < p.constraints → ((v : ℕ) × (p.scope c v ≡ true)) ⊎ p.holds c a) → IsSolution p a
 single_solves {X} p f a within single left each = record {
@@ -91,6 +91,6 @@ single_solves {X} p f a within single left each = record {
     | inr holds ↦ holds
     | inl some ↦
         let e : Extends p c f some.0 (a some.0) = left c known some.0 (a some.0) some.1 (single.within some.0) in
-        p.reads c e.values a (λ v scoped. single.only v (e.values v) (e.inside v scoped)) e.holds
+        p.reads c e.values a (λ v scoped. single.only v (e.values v) (p.scoped c v scoped) (e.inside v scoped)) e.holds
   ];
 }

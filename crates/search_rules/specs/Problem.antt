@@ -17,6 +17,7 @@ pub record Problem (X : Type 0) : Type 1 where
   -- the constraints: which variables each speaks of, and when an assignment satisfies it
   pub constraints : ℕ
   pub scope : ℕ → ℕ → Bool
+  pub scoped : (c v : ℕ) → scope c v ≡ true → v < variables
   pub holds : ℕ → (ℕ → X) → Type 0
   pub reads : (c : ℕ) (a b : ℕ → X) → ((v : ℕ) → scope c v ≡ true → a v ≡ b v) → holds c a → holds c b
   -- the branching rule: in this family it picks this variable and keeps this part of its set
@@ -58,10 +59,10 @@ pub record IsNarrowed {X : Type 0} (p : Problem X) (c : ℕ) (f : ℕ → X → 
 abbrev pub IsLeft : {X : Type 0} → Problem X → ℕ → (ℕ → X → Bool) → Type 0
 IsLeft {X} p c f = (v : ℕ) (x : X) → p.scope c v ≡ true → f v x ≡ true → Extends p c f v x
 
--- each set of the family has just the value that the assignment gives
-pub record IsSingle {X : Type 0} (f : ℕ → X → Bool) (a : ℕ → X) : Type 0 where
+-- each variable's set has just the value that the assignment gives
+pub record IsSingle {X : Type 0} (p : Problem X) (f : ℕ → X → Bool) (a : ℕ → X) : Type 0 where
   pub within : IsWithin f a
-  pub only : (v : ℕ) (x : X) → f v x ≡ true → x ≡ a v
+  pub only : (v : ℕ) (x : X) → v < p.variables → f v x ≡ true → x ≡ a v
 
 -- no values of the scope's variables, each in the family, satisfy the constraint
 abbrev pub IsViolated : {X : Type 0} → Problem X → ℕ → (ℕ → X → Bool) → Type 0

@@ -24,6 +24,7 @@ pub use steps::{
 pub use turns::{
     answer_keeps_the_state_legal, conflict_turn, decision_keeps_the_state_legal,
     going_back_keeps_the_state_legal, narrowing_keeps_the_state_legal,
+    safe_box_keeps_the_state_legal, the_first_state_is_legal,
 };
 pub use walks::{
     walk_holds_what_is_excluded, walk_past_the_first_entry, walk_resolves_no_decision,

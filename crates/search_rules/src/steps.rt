@@ -40,7 +40,7 @@ pub fn steps_keep_solutions<P: Rules>(problem: &P)
 /// false.
 pub fn single_values_are_a_solution<P: Rules>(problem: &P)
     ensures { let p = P.problem problem.now in
-        (f : ℕ → P.Value → Bool) (a : ℕ → P.Value) → AllLie f p.initial → IsSingle f a
+        (f : ℕ → P.Value → Bool) (a : ℕ → P.Value) → AllLie f p.initial → IsSingle p f a
         → ((c : ℕ) → c < p.constraints → IsLeft p c f)
         → ((c : ℕ) → c < p.constraints → ((v : ℕ) × (p.scope c v ≡ true)) ⊎ p.holds c a)
         → IsSolution p a }

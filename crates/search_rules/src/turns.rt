@@ -1,11 +1,10 @@
 //! Laws of the legal state: what each move of the search leaves of it, and that the measure falls.
 
-ghost use Rattle.std.specs.Prelude.{◌≡◌, ℕ, ◌<◌, ◌≤◌, Bool, true, false, List, ◌∷◌};
-ghost use Rattle.search_rules.specs.Family.{IsWithin, put, without};
-ghost use Rattle.search_rules.specs.Problem.{IsSolution, IsCovered};
+ghost use Rattle.std.specs.Prelude.{◌≡◌, ℕ, ◌<◌, ◌≤◌, Bool, true, false, List, [], ◌∷◌};
+ghost use Rattle.search_rules.specs.Family.{put, without};
 ghost use Rattle.search_rules.specs.Trail.{Reason, Decision, ByBox, Entry, Stored, IsPart, IsReason, IsQuiet, back, cut, narrowing_entry, decision_entry};
 ghost use Rattle.search_rules.specs.Walk.{Derives, IsBackLevel};
-ghost use Rattle.search_rules.specs.State.{IsLegal};
+ghost use Rattle.search_rules.specs.State.{IsLegal, IsSafe};
 ghost use Rattle.search_rules.specs.Measure.{measure};
 
 use crate::Rules;
@@ -46,14 +45,27 @@ pub fn going_back_keeps_the_state_legal<P: Rules>(problem: &P)
         → IsLegal p answers boxes es f → IsLegal p answers boxes (cut k es) (back k es f) }
 {}
 
-/// An answer, given with a box whose solutions the answers then cover, keeps the state legal.
+/// The search begins in a legal state: no entries, no boxes, the initial family.
+pub fn the_first_state_is_legal<P: Rules>(problem: &P)
+    ensures { let p = P.problem problem.now in IsLegal p [] [] [] p.initial }
+{}
+
+/// A further answer keeps the state legal.
 pub fn answer_keeps_the_state_legal<P: Rules>(problem: &P)
     ensures { let p = P.problem problem.now in
         (answers : List (ℕ → P.Value)) (boxes : List (Stored P.Value)) (es : List (Entry P.Value)) (f : ℕ → P.Value → Bool)
-        (answer : ℕ → P.Value) (b : ℕ → P.Value → Bool)
-        → IsLegal p answers boxes es f
-        → ((a : ℕ → P.Value) → IsSolution p a → IsWithin b a → IsCovered p (answer ∷ answers) a)
-        → IsLegal p (answer ∷ answers) (record { sides = b; learned = false } ∷ boxes) es f }
+        (answer : ℕ → P.Value)
+        → IsLegal p answers boxes es f → IsLegal p (answer ∷ answers) boxes es f }
+{}
+
+/// A box that holds no solution which the answers do not cover may be stored, unmarked: an answer's box, or the running box
+/// of a walk.
+pub fn safe_box_keeps_the_state_legal<P: Rules>(problem: &P)
+    ensures { let p = P.problem problem.now in
+        (answers : List (ℕ → P.Value)) (boxes : List (Stored P.Value)) (es : List (Entry P.Value)) (f : ℕ → P.Value → Bool)
+        (b : ℕ → P.Value → Bool)
+        → IsLegal p answers boxes es f → IsSafe p answers b
+        → IsLegal p answers (record { sides = b; learned = false } ∷ boxes) es f }
 {}
 
 /// One turn of a conflict: the walk derives a box and stops above level 0, the box is learned, the search goes back and the

@@ -5,7 +5,7 @@ ghost use Rattle.search_rules.specs.Family.{AllLie, IsWithin};
 ghost use Rattle.search_rules.specs.Problem.{IsSolution, IsCovered};
 ghost use Rattle.search_rules.specs.Trail.{Decision, Entry, Stored, IsTrail};
 ghost use Rattle.search_rules.specs.Walk.{IsConflictBox, Matters, GoesOn, Stops, Walk, DerivesAtRoot};
-ghost use Rattle.search_rules.specs.State.{IsExcluded, IsLegal};
+ghost use Rattle.search_rules.specs.State.{IsExcluded, IsLegal, IsSafe};
 
 use crate::Rules;
 
@@ -16,6 +16,15 @@ pub fn walk_holds_what_is_excluded<P: Rules>(problem: &P)
         (boxes : List (Stored P.Value)) (es rest : List (Entry P.Value)) (f b g c : ℕ → P.Value → Bool)
         → IsTrail p boxes es f → IsConflictBox p boxes f b → Walk p es f b rest g c
         → (a : ℕ → P.Value) → IsWithin c a → IsExcluded p boxes a }
+    // the entries that are left are a trail to the family that is left
+    ensures trail { let p = P.problem problem.now in
+        (boxes : List (Stored P.Value)) (es rest : List (Entry P.Value)) (f b g c : ℕ → P.Value → Bool)
+        → IsTrail p boxes es f → Walk p es f b rest g c → IsTrail p boxes rest g }
+
+    // in a legal state the running box holds no solution that the answers do not cover
+    ensures safe { let p = P.problem problem.now in
+        (answers : List (ℕ → P.Value)) (boxes : List (Stored P.Value)) (es rest : List (Entry P.Value)) (f b g c : ℕ → P.Value → Bool)
+        → IsLegal p answers boxes es f → IsConflictBox p boxes f b → Walk p es f b rest g c → IsSafe p answers c }
     ensures holds { let p = P.problem problem.now in
         (boxes : List (Stored P.Value)) (es rest : List (Entry P.Value)) (f b g c : ℕ → P.Value → Bool)
         → IsTrail p boxes es f → IsConflictBox p boxes f b → Walk p es f b rest g c → AllLie g c }

@@ -1,10 +1,9 @@
 -- Lemmas of the enumeration: a solution that begins with some values goes on with one of the values that are still to be tried.
-use Rattle.std.proofs.Common.{◌≡◌, ◌<◌, ◌+◌, ℕ, zero, suc, List, [], ◌∷◌, ◌++◌, ◌⊎◌, inl, inr, length, get_or, take, drop, Option, Some, None, slice_get, Vec, refl, sym, ap, subst, ◌∙◌, Bool, true, false, IsTrue, MatchBool, ◌↔◌, ◌≤◌, arith, length-append, append_assoc, add-one, drop-cons}
+use Rattle.std.proofs.Common.{◌≡◌, ◌<◌, ◌+◌, ℕ, zero, suc, List, [], ◌∷◌, ◌++◌, ◌⊎◌, inl, inr, length, get_or, take, drop, Vec, refl, sym, ap, subst, ◌∙◌, Bool, true, false, IsTrue, MatchBool, ◌↔◌, ◌≤◌, arith, length-append, append_assoc, add-one, drop-cons}
 use Rattle.std.proofs.lemmas.List.{append-nil}
 use Rattle.std.specs.List.{AllZip}
 use Rattle.std.specs.declared.alloc.Global.{Global}
 use Rattle.std.proofs.Math.Seq.{take-append_seam}
-use Rattle.std.proofs.lemmas.Option.{slice_get_cases, slice_get_within}
 use Rattle.std.proofs.lemmas.Slice.Zip.{AllZip-long}
 use Rattle.set_meaning.specs.declared.kinds.Value.{Value}
 use Rattle.set_meaning.specs.declared.kinds.Kind.{Kind}

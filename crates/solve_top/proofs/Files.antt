@@ -1,21 +1,19 @@
 -- Lemmas of the run: from the calls on the desk to what the run means.
-use Rattle.std.proofs.Common.{◌≡◌, ◌<◌, ◌≤◌, ◌+◌, ℕ, List, [], ◌∷◌, ◌++◌, ◌⊎◌, inl, inr, length, take, Option, Some, None, IfSome, IsSome, IsSomeAnd, refl, sym, ap, subst, ◌∙◌, arith}
+use Rattle.std.proofs.Common.{◌≡◌, ◌<◌, ◌≤◌, ℕ, List, [], ◌++◌, ◌⊎◌, inl, inr, length, take, Option, Some, None, IfSome, IsSome, IsSomeAnd, refl, sym, ap, subst, ◌∙◌, arith}
 use Rattle.std.specs.Option.{option_map, option_and_then}
 use Rattle.std.proofs.lemmas.List.{append-nil}
-use Rattle.desk.specs.declared.outside.Asked.{Asked}
 use Rattle.desk.specs.declared.outside.Asked.TheVariants as asked
 use Rattle.desk.specs.declared.outside.Slot.TheVariants as slot
 use Rattle.desk.specs.declared.outside.To.TheVariants as to
-use Rattle.desk.specs.State.{State, written, taken, read_begun, file}
+use Rattle.desk.specs.State.{State, written, taken, file}
 use Rattle.desk.specs.Calls.{Asks, BeginsRead}
 use Rattle.desk.specs.Texts.{TakesAll, Takes, TakesUpTo}
 use Rattle.desk.specs.Causes.{Faults, Rose}
-use Rattle.first_form.specs.FirstForm.{IsFirstForm}
 use Rattle.solve_top.specs.declared.solving.Status.{Status}
 use Rattle.solve_top.specs.declared.solving.Status.TheVariants as status
 use Rattle.solve_top.specs.Answers.{IsAnsweredBy, NotFirstForm}
 use Rattle.solve_top.specs.Endings.{EndsText, usage_line, read_fault_line, memory_lines, not_first_form_line}
-use Rattle.solve_top.specs.Run.{OfFile, Ends, Leaves, LeavesModel, Causes, Reads, RefusesWords, Begins, PrintsFront, PrintsAll, Prints, IsCutShort, RunMeans}
+use Rattle.solve_top.specs.Run.{Ends, LeavesModel, Causes, Reads, RefusesWords, Begins, PrintsFront, PrintsAll, Prints, IsCutShort, RunMeans}
 
 -- ---- the text and the file
 

@@ -1,12 +1,11 @@
 -- One solution is a list of answers, and with no solution no answers cover all.
-use Rattle.std.proofs.Common.{◌≡◌, ◌<◌, List, [], ◌∷◌, ◌++◌, length, ℕ, refl, sym, ap, subst, ◌∙◌, ◌⊎◌, inl, inr, arith, length-append, Result, IfOk}
-use Rattle.std.specs.List.{flat_map}
+use Rattle.std.proofs.Common.{◌≡◌, ◌<◌, List, [], ◌∷◌, length, ℕ, refl, sym, ap, subst, ◌∙◌, inl, inr, arith, length-append}
 use Rattle.std.proofs.lemmas.List.{append-nil}
 use Rattle.set_meaning.specs.declared.kinds.Value.{Value}
 use Rattle.set_meaning.specs.declared.problems.Problem.{Problem}
-use Rattle.set_meaning.specs.Solutions.{IsSolution, HasNoSolution, IsCovered, IsAnswer, AreAnswers, CoverAll}
+use Rattle.set_meaning.specs.Solutions.{IsSolution, HasNoSolution, IsCovered, AreAnswers, CoverAll}
 use Rattle.solve_top.specs.Block.{block}
-use Rattle.solve_top.specs.Answers.{IsAnswered, IsUnsatisfiable, IsOutText, no_solution}
+use Rattle.solve_top.specs.Answers.{IsOutText, no_solution}
 
 -- nothing covers where there are no answers
 nothing_covers : (p : Problem) (values : List Value) → IsCovered p [] values → ⊥

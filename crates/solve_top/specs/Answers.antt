@@ -1,5 +1,5 @@
 -- What answers the text of a model (the output of a FlatZinc solver, in the MiniZinc Handbook's words).
-use Rattle.std.specs.Prelude.{◌≡◌, ◌⊎◌, ℕ, List, [], ◌++◌, length, codes}
+use Rattle.std.specs.Prelude.{◌≡◌, ◌⊎◌, ℕ, List, [], length, codes}
 use Rattle.std.specs.List.{flat_map}
 use Rattle.set_meaning.specs.declared.kinds.Value.{Value}
 use Rattle.set_meaning.specs.declared.problems.Problem.{Problem}

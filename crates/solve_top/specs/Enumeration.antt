@@ -1,5 +1,5 @@
 -- What the enumeration says of a part of an assignment (this project's own).
-use Rattle.std.specs.Prelude.{List, ◌++◌, ◌∷◌, Vec, Contains}
+use Rattle.std.specs.Prelude.{List, ◌++◌, Vec, Contains}
 use Rattle.std.specs.List.{AllZip}
 use Rattle.std.specs.declared.alloc.Global.{Global}
 use Rattle.set_meaning.specs.declared.kinds.Value.{Value}

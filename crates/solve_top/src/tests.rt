@@ -94,13 +94,14 @@ fn faults_of_the_desk_are_told(rt: HostRuntime) -> Result<(), Fail> {
     let alloc = rt.alloc();
     let read_fault = "% read fault\n";
     let rows = [
-        (DeskCall::BeginRead, 4, read_fault),
-        (DeskCall::Read, 4, read_fault),
-        (DeskCall::WriteOut, 5, ""),
+        (DeskCall::BeginRead, 1, 4, read_fault),
+        (DeskCall::Read, 1, 4, read_fault),
+        (DeskCall::Read, 2, 4, read_fault),
+        (DeskCall::WriteOut, 1, 5, ""),
     ];
-    for (call, status, printed) in rows {
+    for (call, number, status, printed) in rows {
         let mut desk = desk_with(alloc, TWO_SETS)?;
-        desk.fail_at(call, 1)?;
+        desk.fail_at(call, number)?;
         assert_eq!(rt; status_of(alloc, &["m"], &mut desk)?, status);
         assert_eq!(rt; desk.out(), printed.as_bytes());
         assert_eq!(rt; desk.faults(), 1);

@@ -1,11 +1,11 @@
-use Rattle.std.proofs.Common.{◌≡◌, ◌<◌, ◌≤◌, ◌++◌, ◌∷◌, [], ◌∙◌, sym, ap, length, drop, take, vec_len, get_or, arith, rules, add-one, drop-cons, subst, List}
+use Rattle.std.proofs.Common.{◌≡◌, ◌<◌, ◌≤◌, ◌++◌, ◌∷◌, [], ap, length, drop, vec_len, arith, rules}
 use Rattle.std.specs.Bool.{⊤}
 use Rattle.std.proofs.lemmas.List.{drop_all}
-use Rattle.std.proofs.lemmas.Bool.{OnFalse_at, MatchBool-at_false}
+use Rattle.std.proofs.lemmas.Bool.{MatchBool-at_false}
 use Rattle.std.proofs.lemmas.Bool.Decides.{nat_tests}
 use Rattle.set_meaning.specs.Solutions.{IsSolution}
 use Rattle.solve_top.specs.Enumeration.{NoneBegins}
-use Rattle.solve_top.proofs.Choices.{GoesOnWith, goes_on, tried_at, taken_back, exhausted, judged, within_kinds}
+use Rattle.solve_top.proofs.Choices.{goes_on, tried_at, taken_back, exhausted, judged, within_kinds}
 use Rattle.solve_top.proofs.enumeration.+explore.Goals as goal
 
 pub returns-in_default-clause-found : goal.returns-in_default-clause-found

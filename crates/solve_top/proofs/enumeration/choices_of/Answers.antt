@@ -1,7 +1,6 @@
-use Rattle.std.proofs.Common.{◌≡◌, ◌++◌, ◌∷◌, List, [], take, get_or, arith, subst, sym, Contains}
+use Rattle.std.proofs.Common.{List, arith, subst, sym, Contains}
 use Rattle.set_meaning.specs.declared.kinds.Value.{Value}
 use Rattle.std.proofs.lemmas.List.{take_more}
-use Rattle.solve_top.specs.Enumeration.{Offers}
 use Rattle.solve_top.proofs.Choices.{offers_more}
 use Rattle.solve_top.proofs.enumeration.choices_of.Goals as goal
 

@@ -1,4 +1,3 @@
-use Rattle.std.proofs.Common.{◌++◌}
 use Rattle.std.proofs.lemmas.Bool.{MatchBool-at_false}
 use Rattle.set_meaning.specs.Solutions.{IsSolution}
 use Rattle.solve_top.specs.Enumeration.{NoneBegins}

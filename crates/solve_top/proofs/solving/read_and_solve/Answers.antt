@@ -1,4 +1,4 @@
-use Rattle.std.proofs.Common.{◌≡◌, List, ℕ, ap, ◌∙◌, subst}
+use Rattle.std.proofs.Common.{List, ℕ, ◌∙◌, subst}
 use Rattle.solve_top.specs.Endings.{EndsText, ending_status, ending_text}
 use Rattle.solve_top.proofs.Files.{reads_model}
 use Rattle.solve_top.proofs.solving.read_and_solve.Goals as goal
