@@ -1,0 +1,14 @@
+use Rattle.diagram_arena.specs.Table.{IsReduced}
+use Rattle.diagram_arena.specs.Arena.{table}
+use Rattle.diagram_ops.proofs.Results.{node_reach}
+use Rattle.diagram_ops.proofs.Memos.{memo_grows}
+use Rattle.diagram_ops.proofs.operations.Ops.node.Goals as goal
+
+pub invariant_of-self : goal.invariant_of-self
+invariant_of-self c = record { reduced = c.make.ensures.reduced; memo = memo_grows _ _ _ c.make.ensures.grows c.self.invariant.memo }
+
+pub returns-clause-reach : goal.returns-clause-reach
+returns-clause-reach c =
+    let was : IsReduced (table c.args.self.now.arena) = rw (← c.self.view_is) c.self.invariant.reduced in
+    node_reach (table c.args.self.now.arena) (table c.make.new.self.arena) was c.make.ensures.reduced c.args.bit c.args.lo c.args.hi c.make.result c.requires
+    (rw (← c.self.view_is) c.make.ensures.joins) (rw (← c.self.view_is) c.make.ensures.only_new)
