@@ -1,6 +1,6 @@
 -- A text has one list of tokens, these spell one list of items, and the items have one problem.
 use Rattle.std.proofs.Common.{◌≡◌, ◌<◌, List, ℕ, length, sym, ap, subst, ◌∙◌, arith}
-use Rattle.fzn_reader.specs.declared.tokens.Token.{Token}
+use Rattle.first_tokens.specs.declared.tokens.Token.{Token}
 use Rattle.set_meaning.specs.declared.problems.Problem.{Problem}
 use Rattle.first_form.specs.declared.tree.Item.{Item}
 use Rattle.first_form.specs.Limits.{text_limit}

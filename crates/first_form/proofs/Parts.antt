@@ -3,12 +3,12 @@ use Rattle.std.proofs.Common.{◌≡◌, ℕ, ◌<◌, ◌^◌, false, List, [],
 use Rattle.std.proofs.lemmas.List.{append-nil}
 use Rattle.std.proofs.lemmas.Int.{to_z-of_z}
 use lib.Signed.{mag}
-use Rattle.fzn_reader.specs.declared.tokens.Token.{Token}
-use Rattle.fzn_reader.specs.declared.tokens.TokenKind.{TokenKind}
-use Rattle.fzn_reader.specs.declared.tokens.TokenKind.TheVariants as kinds
-use Rattle.fzn_reader.specs.declared.tokens.Word.TheVariants as words
-use Rattle.fzn_reader.specs.declared.tokens.Symbol.TheVariants as symbols
-use Rattle.fzn_reader.specs.Text.{bytes_of}
+use Rattle.first_tokens.specs.declared.tokens.Token.{Token}
+use Rattle.first_tokens.specs.declared.tokens.TokenKind.{TokenKind}
+use Rattle.first_tokens.specs.declared.tokens.TokenKind.TheVariants as kinds
+use Rattle.first_tokens.specs.declared.tokens.Word.TheVariants as words
+use Rattle.first_tokens.specs.declared.tokens.Symbol.TheVariants as symbols
+use Rattle.first_tokens.specs.Text.{bytes_of}
 use Rattle.first_form.specs.declared.reading.FirstFault.{FirstFault}
 use Rattle.first_form.specs.Grammar.{Sign, symbol, sign_of_kind, signs}
 use Rattle.first_form.specs.Reading.{◌>>=◌, Gives, with_front, more_elements, elements_from, elements, a_set, a_named, operand, output_var, annotation, declaration, constraint, an_item}

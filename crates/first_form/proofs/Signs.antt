@@ -5,15 +5,15 @@ use Rattle.std.proofs.lemmas.Bool.{false_from_ne_true, cond-true, cond-false}
 use Rattle.std.proofs.lemmas.Int.{to_z-of_z}
 use lib.Signed.{mag}
 use Rattle.std.proofs.lemmas.Slice.Eq.{bytes_eq-Decides}
-use Rattle.fzn_reader.specs.declared.tokens.Token.{Token}
-use Rattle.fzn_reader.specs.declared.tokens.TokenKind.{TokenKind}
-use Rattle.fzn_reader.specs.declared.tokens.TokenKind.TheVariants as kinds
-use Rattle.fzn_reader.specs.declared.tokens.Word.{Word}
-use Rattle.fzn_reader.specs.declared.tokens.Word.TheVariants as words
-use Rattle.fzn_reader.specs.declared.tokens.Symbol.{Symbol}
-use Rattle.fzn_reader.specs.declared.tokens.Symbol.TheVariants as symbols
-use Rattle.fzn_reader.specs.Text.{bytes_of, word_text, symbol_text}
-use Rattle.fzn_reader.specs.Scan.{word_of, symbol_of}
+use Rattle.first_tokens.specs.declared.tokens.Token.{Token}
+use Rattle.first_tokens.specs.declared.tokens.TokenKind.{TokenKind}
+use Rattle.first_tokens.specs.declared.tokens.TokenKind.TheVariants as kinds
+use Rattle.first_tokens.specs.declared.tokens.Word.{Word}
+use Rattle.first_tokens.specs.declared.tokens.Word.TheVariants as words
+use Rattle.first_tokens.specs.declared.tokens.Symbol.{Symbol}
+use Rattle.first_tokens.specs.declared.tokens.Symbol.TheVariants as symbols
+use Rattle.first_tokens.specs.Text.{bytes_of, word_text, symbol_text}
+use Rattle.first_tokens.specs.Scan.{word_of, symbol_of}
 use Rattle.first_form.specs.Grammar.{Sign, word, symbol, sign_of_kind, sign_of, signs}
 use Rattle.first_form.specs.Reading.{same_sign, after, an_int, a_name}
 

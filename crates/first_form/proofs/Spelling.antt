@@ -7,14 +7,14 @@ use Rattle.std.proofs.lemmas.Bool.{false≢true}
 use Rattle.std.proofs.lemmas.Bool.Decides.{Decides-int_eq}
 use Rattle.std.proofs.lemmas.Slice.Eq.{bytes_eq-Decides}
 use Rattle.std.proofs.lemmas.List.{append-nil, flat_map_more, length-map}
-use Rattle.fzn_reader.specs.declared.tokens.Word.TheVariants as words
-use Rattle.fzn_reader.specs.declared.tokens.Symbol.TheVariants as symbols
+use Rattle.first_tokens.specs.declared.tokens.Word.TheVariants as words
+use Rattle.first_tokens.specs.declared.tokens.Symbol.TheVariants as symbols
 use Rattle.first_form.specs.declared.tree.Declaration.{Declaration}
 use Rattle.first_form.specs.declared.tree.Operand.{Operand}
 use Rattle.first_form.specs.declared.tree.Operand.TheVariants as operands
 use Rattle.first_form.specs.declared.tree.Item.{Item}
 use Rattle.first_form.specs.declared.tree.Item.TheVariants as items
-use Rattle.fzn_reader.specs.declared.tokens.Token.{Token}
+use Rattle.first_tokens.specs.declared.tokens.Token.{Token}
 use Rattle.first_form.specs.declared.reading.FirstFault.{FirstFault}
 use Rattle.first_form.specs.declared.reading.FirstFault.TheVariants as faults
 use Rattle.first_form.specs.Grammar.{signs, sign_of, Sign, name, word, int, symbol, elements_spelling, operand_spelling, annotation_spelling, declaration_spelling, union_spelling, subset_spelling, item_spelling, solve_spelling, tree_spelling}

@@ -1,7 +1,7 @@
 -- When a text is of the first form, and which problem it then is. This project's own.
 use Rattle.std.specs.Prelude.{◌≡◌, ◌≤◌, ℕ, List, [], length}
-use Rattle.fzn_reader.specs.declared.tokens.Token.{Token}
-use Rattle.fzn_reader.specs.Scan.{AreTokensOf}
+use Rattle.first_tokens.specs.declared.tokens.Token.{Token}
+use Rattle.first_tokens.specs.Scan.{AreTokensOf}
 use Rattle.set_meaning.specs.declared.problems.Shown.{Shown}
 use Rattle.set_meaning.specs.declared.problems.Problem.{Problem}
 use Rattle.first_form.specs.Limits.{text_limit}

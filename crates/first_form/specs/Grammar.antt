@@ -8,14 +8,14 @@
 --     t1     = Name | "{" [ INT { "," INT } ] "}"
 use Rattle.std.specs.Prelude.{ℕ, Bool, true, false, List, [], ◌∷◌, ◌++◌, map, ℤ, codes}
 use Rattle.std.specs.List.{flat_map}
-use Rattle.fzn_reader.specs.declared.tokens.Token.{Token}
-use Rattle.fzn_reader.specs.declared.tokens.TokenKind.{TokenKind}
-use Rattle.fzn_reader.specs.declared.tokens.TokenKind.TheVariants as kinds
-use Rattle.fzn_reader.specs.declared.tokens.Word.{Word}
-use Rattle.fzn_reader.specs.declared.tokens.Word.TheVariants as words
-use Rattle.fzn_reader.specs.declared.tokens.Symbol.{Symbol}
-use Rattle.fzn_reader.specs.declared.tokens.Symbol.TheVariants as symbols
-use Rattle.fzn_reader.specs.Text.{bytes_of}
+use Rattle.first_tokens.specs.declared.tokens.Token.{Token}
+use Rattle.first_tokens.specs.declared.tokens.TokenKind.{TokenKind}
+use Rattle.first_tokens.specs.declared.tokens.TokenKind.TheVariants as kinds
+use Rattle.first_tokens.specs.declared.tokens.Word.{Word}
+use Rattle.first_tokens.specs.declared.tokens.Word.TheVariants as words
+use Rattle.first_tokens.specs.declared.tokens.Symbol.{Symbol}
+use Rattle.first_tokens.specs.declared.tokens.Symbol.TheVariants as symbols
+use Rattle.first_tokens.specs.Text.{bytes_of}
 use Rattle.first_form.specs.declared.tree.Declaration.{Declaration}
 use Rattle.first_form.specs.declared.tree.Operand.{Operand}
 use Rattle.first_form.specs.declared.tree.Operand.TheVariants as operands

@@ -4,10 +4,10 @@ use Rattle.std.specs.Prelude.{◌≡◌, ℕ, Bool, true, false, if◌then◌els
 use Rattle.std.specs.Borrow.{Bor}
 use Rattle.std.specs.Ordering.{int_eq}
 use Rattle.std.specs.Str.{bytes_eq}
-use Rattle.fzn_reader.specs.declared.tokens.Token.{Token}
-use Rattle.fzn_reader.specs.declared.tokens.Word.TheVariants as words
-use Rattle.fzn_reader.specs.declared.tokens.Symbol.TheVariants as symbols
-use Rattle.fzn_reader.specs.Text.{word_text, symbol_text}
+use Rattle.first_tokens.specs.declared.tokens.Token.{Token}
+use Rattle.first_tokens.specs.declared.tokens.Word.TheVariants as words
+use Rattle.first_tokens.specs.declared.tokens.Symbol.TheVariants as symbols
+use Rattle.first_tokens.specs.Text.{word_text, symbol_text}
 use Rattle.first_form.specs.declared.reading.FirstFault.{FirstFault}
 use Rattle.first_form.specs.declared.reading.FirstFault.TheVariants as faults
 use Rattle.first_form.specs.declared.tree.Operand.{Operand}

@@ -10,7 +10,7 @@ ghost use Rattle.first_form.specs.Reading.{Gives, seen, with_seen, after, an_int
 
 use crate::reading::FirstFault;
 use crate::tree::{Declaration, Item, Operand};
-use fzn_reader::{Symbol, Token, TokenKind, Word};
+use first_tokens::{Symbol, Token, TokenKind, Word};
 use listed::Listed;
 use set_meaning::Text;
 use std::alloc::Global;

@@ -9,7 +9,7 @@ use crate::building::problem_of_tree;
 use crate::limits::TEXT_LIMIT;
 use crate::parser::items_of;
 use crate::tree::Item;
-use fzn_reader::{FirstEnd, Token, lex};
+use first_tokens::{FirstEnd, Token, lex};
 use set_meaning::Problem;
 use std::alloc::{AllocError, AllocFailed, Global};
 

@@ -1,4 +1,11 @@
-pub mod Digits
-pub mod Longest
+pub mod Runs
+pub mod Exponents
+pub mod LongestNumbers
+pub mod Values
 pub mod Fronts
+pub mod LongestWords
+pub mod Closings
+pub mod FirstBytes
+pub mod FaultCauses
 pub mod Scans
+pub mod Ends

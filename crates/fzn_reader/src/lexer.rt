@@ -1,131 +1,97 @@
 //! The scan of a whole text.
 
-ghost use Rattle.std.specs.Prelude.{◌≡◌, List, IfOk};
+ghost use Rattle.std.specs.Prelude.{◌≡◌, ◌⊎◌, List, Result, IfOk, IfErr, OnOk};
 ghost use Rattle.fzn_reader.specs.declared.tokens.Token.{Token};
-ghost use Rattle.fzn_reader.specs.Scan.{AreTokensOf};
+ghost use Rattle.fzn_reader.specs.Scan.{AreTokensOf, IsFirstLexFault, EndsIn};
+ghost use Rattle.fzn_reader.specs.Front.{IsTaken, IsRefused};
 
-use crate::gaps::gap_len;
-use crate::pieces::token_at;
+use crate::pieces::{Piece, piece_at};
 use crate::tokens::Token;
 use std::alloc::{AllocError, AllocFailed, Global};
+use thiserror::Error;
 
-/// Why a text has no tokens.
-#[derive(Clone, Copy, Debug, PartialEq, Eq)]
-pub enum FirstEnd {
-    /// The scan stops before the end of the text, so the text is not of the first form.
-    NotFirstForm,
+/// Why a text has no tokens: its first fault, with its place.
+#[derive(Clone, Copy, Debug, PartialEq, Eq, Error)]
+pub enum LexFault {
+    /// Any other byte at which no token, separator or comment begins.
+    #[error("bad byte")]
+    BadByte { at: usize },
+    /// `0x` or `0o`, or a `-` directly before it, with no digit of its base after it.
+    #[error("bad number")]
+    BadNumber { at: usize },
+    /// The opening quote of a string that meets a newline, also one right after a backslash, or the end of the text.
+    #[error("string not closed")]
+    OpenString { at: usize },
     /// There was not enough memory.
+    #[error("out of memory")]
     Memory,
 }
 
-impl From<AllocError> for FirstEnd {
+impl From<AllocError> for LexFault {
     ghost use Rattle.std.specs.Prelude.{◌≡◌};
-    ghost use Rattle.fzn_reader.specs.declared.lexer.FirstEnd.TheVariants.{Memory};
+    ghost use Rattle.fzn_reader.specs.declared.lexer.LexFault.TheVariants.{Memory};
 
     ghost from_gives = { λ _ e. e ≡ Memory };
 
-    fn from(_: AllocError) -> FirstEnd {
-        FirstEnd::Memory
+    fn from(_: AllocError) -> LexFault {
+        LexFault::Memory
     }
 }
 
-impl<T: Drop> From<AllocFailed<T>> for FirstEnd {
+impl<T: Drop> From<AllocFailed<T>> for LexFault {
     ghost use Rattle.std.specs.Prelude.{◌≡◌};
-    ghost use Rattle.fzn_reader.specs.declared.lexer.FirstEnd.TheVariants.{Memory};
+    ghost use Rattle.fzn_reader.specs.declared.lexer.LexFault.TheVariants.{Memory};
 
     ghost from_gives = { λ _ e. e ≡ Memory };
 
-    fn from(_: AllocFailed<T>) -> FirstEnd {
-        FirstEnd::Memory
+    fn from(_: AllocFailed<T>) -> LexFault {
+        LexFault::Memory
     }
 }
 
-/// The tokens of `text`, in their order.
+/// Appends the token that a piece is, or nothing for a gap.
+fn append_piece(
+    tokens: &mut Vec<Token>,
+    piece: Piece,
+    from: usize,
+    to: usize,
+) -> Result<(), LexFault>
+    ensures taken { OnOk result (IsTaken piece from to tokens.old.items tokens.new.items) }
+    ensures refused { IfErr result (λ e. (e ≡ LexFault.Memory) ⊎ IsRefused piece from e) }
+{
+    match piece {
+        Piece::Token(kind) => {
+            tokens.push(Token { kind, from, to })?;
+            Ok(())
+        }
+        Piece::Gap => Ok(()),
+        Piece::NoDigits => Err(LexFault::BadNumber { at: from }),
+        Piece::OpenQuote => Err(LexFault::OpenString { at: from }),
+    }
+}
+
+/// The tokens of `text` in their order, or its first fault; `alloc` is where the list is made.
 ///
-/// The answer is `NotFirstForm` where some byte outside separators and comments begins no token, or begins a number that
-/// is larger than [`INT_LIMIT`](crate::INT_LIMIT) in size. The work is linear in the length of the text.
-pub fn lex(alloc: Global, text: &[u8]) -> Result<Vec<Token>, FirstEnd>
+/// At each place the longest token is taken. Separators and comments lie between tokens and give none. A token's range has
+/// the `-` of a number and the quotes of a string, and its bytes stay in `text`. A place, also that of a fault, is the
+/// number of bytes before it. The work is linear in the length of the text.
+///
+/// Source: the FlatZinc grammar of the MiniZinc Handbook.
+pub fn lex(alloc: Global, text: &[u8]) -> Result<Vec<Token>, LexFault>
     ensures tokens { IfOk result (λ ts. AreTokensOf text.now ts.items) }
-    ensures only { IfOk result (λ ts. (us : List Token) → AreTokensOf text.now us → us ≡ ts.items) }
-    ensures not_first_form { result ≡ Err FirstEnd.NotFirstForm
-        → (us : List Token) → AreTokensOf text.now us → ⊥ }
+    ensures fault { IfErr result (λ e. (e ≡ LexFault.Memory) ⊎ IsFirstLexFault text.now e) }
+    ensures one_end { (a b : Result (List Token) LexFault)
+        → EndsIn text.now a → EndsIn text.now b → a ≡ b }
 {
     let mut tokens = Vec::new(alloc);
-    let mut from = gap_len(text);
+    let mut from = 0;
     while from < text.len() {
-        let Some((kind, len)) = token_at(&text[from..]) else {
-            return Err(FirstEnd::NotFirstForm);
+        let Some((piece, len)) = piece_at(&text[from..]) else {
+            return Err(LexFault::BadByte { at: from });
         };
         let to = from + len;
-        tokens.push(Token { kind, from, to })?;
-        from = to + gap_len(&text[to..]);
+        append_piece(&mut tokens, piece, from, to)?;
+        from = to;
     }
     Ok(tokens)
-}
-
-#[cfg(test)]
-mod tests {
-    use super::*;
-    use crate::tokens::{Symbol, TokenKind, Word};
-    use std::test::Fail;
-
-    #[test]
-    fn reads_tokens_with_their_places(rt: HostRuntime) -> Result<(), Fail> {
-        let tokens = lex(rt.alloc(), b"-1..3::%var\n _a1 var")?;
-        let expected = [
-            Token {
-                kind: TokenKind::Int(-1),
-                from: 0,
-                to: 2,
-            },
-            Token {
-                kind: TokenKind::Symbol(Symbol::DotDot),
-                from: 2,
-                to: 4,
-            },
-            Token {
-                kind: TokenKind::Int(3),
-                from: 4,
-                to: 5,
-            },
-            Token {
-                kind: TokenKind::Symbol(Symbol::ColonColon),
-                from: 5,
-                to: 7,
-            },
-            Token {
-                kind: TokenKind::Name,
-                from: 13,
-                to: 16,
-            },
-            Token {
-                kind: TokenKind::Word(Word::Var),
-                from: 17,
-                to: 20,
-            },
-        ];
-        assert_eq!(rt; tokens.as_slice(), expected.as_slice());
-        assert_eq!(rt;
-            tokens[4].bytes(b"-1..3::%var\n _a1 var"),
-            b"_a1".as_slice()
-        );
-        Ok(())
-    }
-
-    #[test]
-    fn stops_where_no_token_begins(rt: HostRuntime) -> Result<(), Fail> {
-        for text in ["1.5", "x -", "__ ", "1000000001", "\"\"", "\u{e9}"] {
-            assert!(rt;
-                matches!(
-                    lex(rt.alloc(), text.as_bytes()),
-                    Err(FirstEnd::NotFirstForm)
-                ),
-                "{text}"
-            );
-        }
-        for text in ["", " % \u{e9}", "1000000000", "0x1f"] {
-            assert!(rt; lex(rt.alloc(), text.as_bytes()).is_ok(), "{text}");
-        }
-        Ok(())
-    }
 }

@@ -2,7 +2,7 @@
 
 ghost use Rattle.std.specs.Prelude.{◌≡◌, ◌-◌, ◌≤◌, take, drop};
 
-/// The largest size of an integer.
+/// The largest size of an integer whose value is told.
 pub const INT_LIMIT: u64 = 1_000_000_000;
 
 /// A token, by its kind and its place in the text.
@@ -23,8 +23,14 @@ pub enum TokenKind {
     Name,
     /// A reserved word.
     Word(Word),
-    /// A decimal integer of at most [`INT_LIMIT`] in size.
+    /// An integer of at most [`INT_LIMIT`] in size, in decimal, hexadecimal or octal, with the `-` directly before it.
     Int(i64),
+    /// An integer of more than [`INT_LIMIT`] in size, in any of these bases. Its value is not told.
+    LargeInt,
+    /// A float, with the `-` directly before it. Its value is not computed.
+    Float,
+    /// A string. Its bytes, the quotes included, are those of its place in the text.
+    Text,
     /// A symbol.
     Symbol(Symbol),
 }
@@ -81,7 +87,7 @@ impl Token {
 
 impl Word {
     ghost use Rattle.fzn_reader.specs.Text.{word_text, all_words};
-    ghost use Rattle.fzn_reader.specs.Scan.{word_of};
+    ghost use Rattle.fzn_reader.specs.Pieces.{word_of};
 
     /// The reserved words.
     const ALL: [Word; 15] = [

@@ -3,7 +3,7 @@ use Rattle.std.proofs.Common.{◌≡◌, sym, ◌∙◌, ap, subst, ◌++◌, Li
 use Rattle.std.specs.Borrow.{Bor}
 use Rattle.std.specs.List.{flat_map}
 use Rattle.std.proofs.lemmas.Result.{err_from_is_err_and}
-use Rattle.fzn_reader.specs.declared.tokens.Token.{Token}
+use Rattle.first_tokens.specs.declared.tokens.Token.{Token}
 use Rattle.first_form.specs.declared.reading.FirstFault.TheVariants as faults
 use Rattle.first_form.specs.declared.tree.Item.{Item}
 use Rattle.first_form.specs.Grammar.{Sign, signs, item_spelling}

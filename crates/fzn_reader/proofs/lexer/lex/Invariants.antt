@@ -1,4 +1,4 @@
--- The tokens so far are those of every reading of the text, which goes on at the next token.
+-- Parts lead to the place, and the tokens so far are those among them.
 use Rattle.std.proofs.Common.{◌-◌, length}
 use Rattle.fzn_reader.proofs.Scans.{ReadsTo}
 use Rattle.fzn_reader.proofs.lexer.lex.Given as goal

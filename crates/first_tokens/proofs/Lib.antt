@@ -1,0 +1,4 @@
+pub mod Digits
+pub mod Longest
+pub mod Fronts
+pub mod Scans

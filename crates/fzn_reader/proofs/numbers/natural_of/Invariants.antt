@@ -1,0 +1,8 @@
+-- The number of the digits so far.
+use Rattle.std.proofs.Common.{◌≡◌, ◌≤◌, take}
+use Rattle.std.specs.Str.Parse.{digits_value}
+use Rattle.fzn_reader.specs.declared.tokens.TheConstants.{INT_LIMIT}
+use Rattle.fzn_reader.proofs.numbers.natural_of.Given as goal
+
+abbrev pub invariant-loop-digit : goal.invariant-loop-digit
+invariant-loop-digit l = (l.number ≡ digits_value l.base (take l.digit-index l.digits)) × (l.number ≤ INT_LIMIT)
