@@ -5,3 +5,8 @@ pub mod Arguments
 pub mod Variables
 pub mod InitialValues
 pub mod SubsetLists
+pub mod Readings
+pub mod Orders
+pub mod Truths
+pub mod Items
+pub mod Products

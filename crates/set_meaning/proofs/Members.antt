@@ -1,11 +1,14 @@
--- Subsets and unions, by a look at each element, and assignments, by a look at each variable.
-use Rattle.std.proofs.Common.{◌≡◌, ◌↔◌, List, [], ◌∷◌, length, ℤ, true, false, refl, subst, inl, inr, arith, IsTrue}
+-- Subsets and results of operations, by a look at each element, and assignments, by a look at each variable.
+use Rattle.std.proofs.Common.{◌≡◌, ◌↔◌, ◌⊎◌, List, [], ◌∷◌, length, ℤ, true, false, refl, subst, inl, inr, arith, IsTrue}
 use Rattle.std.specs.List.{All}
 use Rattle.std.proofs.lemmas.List.Elements.{All-contains, Contains-get_or}
 use Rattle.set_meaning.specs.declared.kinds.Kind.{Kind}
 use Rattle.set_meaning.specs.declared.kinds.Value.{Value}
 use Rattle.set_meaning.specs.Kinds.{InKind, IsAssignment}
-use Rattle.set_meaning.specs.Sets.{Has, EitherHas, IsSubset, IsUnion}
+use Rattle.set_meaning.specs.declared.sets.SetOperation.{SetOperation}
+use Rattle.set_meaning.specs.declared.sets.SetOperation.TheVariants.{Union, Intersection, Difference, SymmetricDifference}
+use Rattle.set_meaning.specs.Sets.{Has, EitherHas, BothHave, OnlyFirstHas, JustOneHas, IsSubset, IsUnion, IsIntersection, IsDifference, IsSymmetricDifference}
+use Rattle.set_meaning.specs.Operations.{ResultHas, AgreesAt, IsSetResult}
 
 pub IsSubset-from_all : (a b : List ℤ) → All (Has b) a → IsSubset a b
 unfolding IsSubset Has
@@ -15,22 +18,45 @@ pub all_from_IsSubset : (a b : List ℤ) → IsSubset a b → All (Has b) a
 unfolding IsSubset Has
 all_from_IsSubset a b sub k d within = sub _ (Contains-get_or a k d within)
 
-pub IsUnion-from_parts : (a b c : List ℤ) → IsSubset a c → IsSubset b c → All (EitherHas a b) c → IsUnion a b c
-unfolding IsUnion IsSubset Has EitherHas
-IsUnion-from_parts a b c left right all x =
-    (λ h. All-contains (EitherHas a b) c x all h, λ h. elim h [ inl e ↦ left x e | inr e ↦ right x e ])
+-- ---- results of operations
 
-pub left_of_IsUnion : (a b c : List ℤ) → IsUnion a b c → IsSubset a c
-unfolding IsUnion IsSubset EitherHas
-left_of_IsUnion a b c union x h = (union x).1 (inl h)
+-- what an operation gives is an element of one of the two sets
+from_one : (operation : SetOperation) (a b : List ℤ) (x : ℤ) → ResultHas operation a b x → Has a x ⊎ Has b x
+unfolding EitherHas BothHave OnlyFirstHas JustOneHas
+from_one Union a b x h = h
+from_one Intersection a b x h = inl h.0
+from_one Difference a b x h = inl h.0
+from_one SymmetricDifference a b x h = elim h [ inl one ↦ inl one.0 | inr one ↦ inr one.0 ]
 
-pub right_of_IsUnion : (a b c : List ℤ) → IsUnion a b c → IsSubset b c
-unfolding IsUnion IsSubset EitherHas
-right_of_IsUnion a b c union x h = (union x).1 (inr h)
+-- so it is enough to look at the elements of the three sets
+agreement : (operation : SetOperation) (a b c : List ℤ) → All (AgreesAt operation a b c) a → All (AgreesAt operation a b c) b → All (AgreesAt operation a b c) c
+    → (x : ℤ) → AgreesAt operation a b c x
+unfolding AgreesAt Has
+agreement operation a b c in_a in_b in_c x = (
+  λ h. (All-contains (AgreesAt operation a b c) c x in_c h).0 h,
+  λ r. elim (from_one operation a b x r) [
+    | inl h ↦ (All-contains (AgreesAt operation a b c) a x in_a h).1 r
+    | inr h ↦ (All-contains (AgreesAt operation a b c) b x in_b h).1 r
+  ],
+)
 
-pub all_of_IsUnion : (a b c : List ℤ) → IsUnion a b c → All (EitherHas a b) c
-unfolding IsUnion Has
-all_of_IsUnion a b c union k d within = (union _).0 (Contains-get_or c k d within)
+result_from_agreement : (operation : SetOperation) (a b c : List ℤ) → ((x : ℤ) → AgreesAt operation a b c x) → IsSetResult operation a b c
+unfolding AgreesAt IsUnion IsIntersection IsDifference IsSymmetricDifference
+result_from_agreement Union a b c h = h
+result_from_agreement Intersection a b c h = h
+result_from_agreement Difference a b c h = h
+result_from_agreement SymmetricDifference a b c h = h
+
+pub result_agrees : (operation : SetOperation) (a b c : List ℤ) → IsSetResult operation a b c → (x : ℤ) → AgreesAt operation a b c x
+unfolding AgreesAt IsUnion IsIntersection IsDifference IsSymmetricDifference
+result_agrees Union a b c h = h
+result_agrees Intersection a b c h = h
+result_agrees Difference a b c h = h
+result_agrees SymmetricDifference a b c h = h
+
+pub result_from_parts : (operation : SetOperation) (a b c : List ℤ) → All (AgreesAt operation a b c) a → All (AgreesAt operation a b c) b → All (AgreesAt operation a b c) c
+    → IsSetResult operation a b c
+result_from_parts operation a b c in_a in_b in_c = result_from_agreement operation a b c (agreement operation a b c in_a in_b in_c)
 
 -- ---- assignments
 

@@ -1,5 +1,14 @@
 pub mod Sets
 pub mod Kinds
+pub mod Integers
+pub mod LinearSums
+pub mod Booleans
+pub mod Elements
+pub mod Arguments
 pub mod Relations
+pub mod Comparisons
+pub mod Operations
+pub mod Sums
+pub mod Rows
 pub mod Problems
 pub mod Solutions

@@ -1,6 +1,6 @@
 -- Sets of integers, written as ascending lists. This project's own; a set is what FlatZinc calls a set of int (MiniZinc
 -- Handbook), and `lo..hi` is its range.
-use Rattle.std.specs.Prelude.{◌↔◌, ◌⊎◌, ℕ, suc, zero, ◌+◌, ℤ, pos, ◌+ℤ◌, ◌-ℤ◌, int_lt, unsigned_abs, cond, List, [], ◌∷◌, ◌++◌, map, Contains}
+use Rattle.std.specs.Prelude.{◌≡◌, ◌↔◌, ◌⊎◌, ℕ, suc, zero, ◌+◌, ℤ, pos, ◌+ℤ◌, ◌-ℤ◌, ◌<ℤ◌, int_lt, unsigned_abs, cond, List, [], ◌∷◌, ◌++◌, map, Contains, ⊤}
 use Rattle.std.specs.Ordering.{int_cmp, match_ordering}
 use Rattle.std.specs.List.Sorted.{IsStrictlySortedBy}
 
@@ -23,6 +23,38 @@ IsSubset a b = (x : ℤ) → Has a x → Has b x
 -- c has what is in a or in b, and nothing else
 unfoldable pub IsUnion : List ℤ → List ℤ → List ℤ → Type 0
 IsUnion a b c = (x : ℤ) → Has c x ↔ EitherHas a b x
+
+-- x is an element of a and of b
+unfoldable pub BothHave : List ℤ → List ℤ → ℤ → Type 0
+BothHave a b x = Has a x × Has b x
+
+-- c has what is in a and in b, and nothing else
+unfoldable pub IsIntersection : List ℤ → List ℤ → List ℤ → Type 0
+IsIntersection a b c = (x : ℤ) → Has c x ↔ BothHave a b x
+
+-- x is an element of a and not of b
+unfoldable pub OnlyFirstHas : List ℤ → List ℤ → ℤ → Type 0
+OnlyFirstHas a b x = Has a x × (¬ Has b x)
+
+-- c has what is in a and not in b, and nothing else
+unfoldable pub IsDifference : List ℤ → List ℤ → List ℤ → Type 0
+IsDifference a b c = (x : ℤ) → Has c x ↔ OnlyFirstHas a b x
+
+-- x is an element of just one of a and b
+unfoldable pub JustOneHas : List ℤ → List ℤ → ℤ → Type 0
+JustOneHas a b x = OnlyFirstHas a b x ⊎ OnlyFirstHas b a x
+
+-- c has what is in just one of a and b, and nothing else
+unfoldable pub IsSymmetricDifference : List ℤ → List ℤ → List ℤ → Type 0
+IsSymmetricDifference a b c = (x : ℤ) → Has c x ↔ JustOneHas a b x
+
+-- this project's own order of sets, lexicographic on their ascending lists: where they first differ a has the lesser element,
+-- or a is a proper prefix of b
+unfoldable pub IsBefore : List ℤ → List ℤ → Type 0
+IsBefore [] [] = ⊥
+IsBefore [] (y ∷ ys) = ⊤
+IsBefore (x ∷ xs) [] = ⊥
+IsBefore (x ∷ xs) (y ∷ ys) = (x <ℤ y) ⊎ ((x ≡ y) × IsBefore xs ys)
 
 -- the set has just the listed integers
 pub record IsSetOf (items set : List ℤ) : Type 0 where

@@ -5,7 +5,8 @@ use Rattle.set_meaning.specs.declared.problems.Goal.{Goal}
 use Rattle.set_meaning.specs.declared.problems.Goal.TheVariants.{Satisfy, Minimize, Maximize}
 use Rattle.set_meaning.specs.declared.problems.Problem.{Problem}
 use Rattle.set_meaning.specs.Kinds.{IsAssignment}
-use Rattle.set_meaning.specs.Relations.{Holds, OfTwo, int_at}
+use Rattle.set_meaning.specs.Arguments.{OfTwo, int_at}
+use Rattle.set_meaning.specs.Relations.{Holds}
 
 -- an assignment under which every constraint holds
 pub record IsSolution (p : Problem) (values : List Value) : Type 0 where

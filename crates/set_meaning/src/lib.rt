@@ -9,6 +9,7 @@ pub mod initial;
 pub mod kinds;
 pub mod meaning;
 pub mod problems;
+pub mod rows;
 pub mod sets;
 
 pub use initial::initial_values;
@@ -17,4 +18,5 @@ pub use meaning::{holds, is_solution, scope};
 pub use problems::{
     Arg, Bounds, BoxId, ConId, Constraint, Dim, Goal, Problem, Relation, Shown, Term, Text, VarId,
 };
+pub use rows::{Row, Shape, Sort, fits_row, row_of};
 pub use sets::SetValue;

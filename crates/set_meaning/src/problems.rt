@@ -31,13 +31,88 @@ pub enum Arg {
     Many(Listed<Term>),
 }
 
-/// What a constraint says of its arguments.
+/// What a constraint says of its arguments, one variant a name of the language. In the names below `a`, `b` and `c` are of the
+/// sort that the name begins with, `x`, `n` and the `b` before an array are integers, `ps`, `ns` and `as` are arrays of terms,
+/// `cs` is an array of integer constants, `xs` an array of as many integers, and `k` an integer constant. A relation that is
+/// marked as reifiable may have one more Boolean, which is then its truth value.
 #[derive(Clone, Copy, Debug, PartialEq, Eq)]
 pub enum Relation {
+    /// `set_eq(a, b)`: a is b. Reifiable.
+    SetEq,
+    /// `set_ne(a, b)`: a is not b. Reifiable.
+    SetNe,
+    /// `set_lt(a, b)`: the ascending list of a is lexicographically before that of b, a proper prefix being before. Reifiable.
+    SetLt,
+    /// `set_le(a, b)`: a is before b, or is b. Reifiable.
+    SetLe,
+    /// `set_subset(a, b)`: each element of a is in b. Reifiable.
+    SetSubset,
+    /// `set_superset(a, b)`: each element of b is in a. Reifiable.
+    SetSuperset,
+    /// `set_in(x, a)`: x is an element of a. Reifiable.
+    SetIn,
     /// `set_union(a, b, c)`: c is the union of a and b.
     SetUnion,
-    /// `set_subset(a, b)`: each element of a is in b.
-    SetSubset,
+    /// `set_intersect(a, b, c)`: c is the intersection of a and b.
+    SetIntersect,
+    /// `set_diff(a, b, c)`: c is a without the elements of b.
+    SetDiff,
+    /// `set_symdiff(a, b, c)`: c has what is in just one of a and b.
+    SetSymdiff,
+    /// `set_card(a, n)`: a has n elements.
+    SetCard,
+    /// `array_set_element(b, as, c)` and `array_var_set_element`: b is from 1 to the length, and the b-th of as is c.
+    ArraySetElement,
+    /// `int_eq(a, b)`: a = b. Reifiable.
+    IntEq,
+    /// `int_ne(a, b)`: a differs from b. Reifiable.
+    IntNe,
+    /// `int_le(a, b)`: a is at most b. Reifiable.
+    IntLe,
+    /// `int_lt(a, b)`: a is less than b. Reifiable.
+    IntLt,
+    /// `int_lin_eq(cs, xs, k)`: the sum of the products is k. Reifiable.
+    IntLinEq,
+    /// `int_lin_le(cs, xs, k)`: the sum of the products is at most k. Reifiable.
+    IntLinLe,
+    /// `int_lin_ne(cs, xs, k)`: the sum of the products differs from k. Reifiable.
+    IntLinNe,
+    /// `int_plus(a, b, c)`: a + b = c.
+    IntPlus,
+    /// `int_times(a, b, c)`: a * b = c.
+    IntTimes,
+    /// `int_min(a, b, c)`: c is the less of a and b.
+    IntMin,
+    /// `int_max(a, b, c)`: c is the greater of a and b.
+    IntMax,
+    /// `int_abs(a, b)`: b is the absolute value of a.
+    IntAbs,
+    /// `array_int_element(b, as, c)` and `array_var_int_element`: b is from 1 to the length, and the b-th of as is c.
+    ArrayIntElement,
+    /// `bool_eq(a, b)`: a is b. Reifiable.
+    BoolEq,
+    /// `bool_le(a, b)`: a is false or b is true. Reifiable.
+    BoolLe,
+    /// `bool_lt(a, b)`: a is false and b is true. Reifiable.
+    BoolLt,
+    /// `bool_not(a, b)`: a differs from b.
+    BoolNot,
+    /// `bool_and(a, b, c)`: c is a and b.
+    BoolAnd,
+    /// `bool_or(a, b, c)`: c is a or b.
+    BoolOr,
+    /// `bool_xor(a, b, c)`: c is whether just one of a and b is true.
+    BoolXor,
+    /// `bool_clause(ps, ns)`: some of ps is true or some of ns is false.
+    BoolClause,
+    /// `array_bool_and(as, c)`: c is whether all of as are true.
+    ArrayBoolAnd,
+    /// `array_bool_or(as, c)`: c is whether some of as is true.
+    ArrayBoolOr,
+    /// `bool2int(a, b)`: b is 1 where a is true and 0 otherwise.
+    Bool2Int,
+    /// `array_bool_element(b, as, c)` and `array_var_bool_element`: b is from 1 to the length, and the b-th of as is c.
+    ArrayBoolElement,
 }
 
 /// A relation over arguments. Where `reif` is given, the constraint says that it is the truth value of the relation.

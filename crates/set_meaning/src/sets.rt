@@ -1,5 +1,6 @@
 ghost use Rattle.std.specs.Prelude.{◌≡◌, ◌↔◌, ◌∷◌, ℤ, pos, ◌-ℤ◌, ◌<ℤ◌, ◌≤ℤ◌, IsTrue, IfOk, All};
-ghost use Rattle.set_meaning.specs.Sets.{IsAscending, IsSetOf, Has, EitherHas, IsSubset, IsUnion, ascending_set, count_between, integers_between};
+ghost use Rattle.set_meaning.specs.Operations.{AgreesAt, IsSetResult, ResultHas};
+ghost use Rattle.set_meaning.specs.Sets.{IsAscending, IsSetOf, Has, IsSubset, IsBefore, ascending_set, count_between, integers_between};
 
 use std::alloc::{AllocError, Global};
 use std::marker::Model;
@@ -85,6 +86,20 @@ impl SetValue {
         }
     }
 
+    /// Whether both have the same elements.
+    pub(crate) fn is_equal(&self, other: &SetValue) -> bool
+        ensures { IsTrue result ↔ (self.now ≡ other.now) }
+    {
+        self.elements() == other.elements()
+    }
+
+    /// Whether this comes before `other` in the lexicographic order of their ascending lists. A proper prefix comes before.
+    pub(crate) fn is_before(&self, other: &SetValue) -> bool
+        ensures { IsTrue result ↔ IsBefore self.now other.now }
+    {
+        self.elements() < other.elements()
+    }
+
     /// Whether each element is one of `other`.
     pub fn is_subset(&self, other: &SetValue) -> bool
         ensures { IsTrue result ↔ IsSubset self.now other.now }
@@ -92,17 +107,45 @@ impl SetValue {
         all_in(self.elements(), other)
     }
 
-    /// Whether the elements are those of `a` and those of `b`, and no others.
-    pub fn is_union_of(&self, a: &SetValue, b: &SetValue) -> bool
-        ensures { IsTrue result ↔ IsUnion a.now b.now self.now }
+    /// Whether the elements are just those that the operation gives on `a` and `b`.
+    pub(crate) fn is_result_of(&self, operation: SetOperation, a: &SetValue, b: &SetValue) -> bool
+        ensures { IsTrue result ↔ IsSetResult operation a.now b.now self.now }
     {
-        if !a.is_subset(self) {
+        if !all_agree(a.elements(), self, operation, a, b) {
             return false;
         }
-        if !b.is_subset(self) {
+        if !all_agree(b.elements(), self, operation, a, b) {
             return false;
         }
-        all_in_either(self.elements(), a, b)
+        all_agree(self.elements(), self, operation, a, b)
+    }
+}
+
+/// An operation on two sets.
+#[derive(Clone, Copy)]
+pub(crate) enum SetOperation {
+    /// What is in either.
+    Union,
+    /// What is in both.
+    Intersection,
+    /// What is in the first and not in the second.
+    Difference,
+    /// What is in just one.
+    SymmetricDifference,
+}
+
+impl SetOperation {
+    /// Whether the operation gives `x` on `a` and `b`.
+    #[tactic(auto, unfolding(crate::specs::Sets::EitherHas, crate::specs::Sets::BothHave, crate::specs::Sets::OnlyFirstHas, crate::specs::Sets::JustOneHas))]
+    fn gives(self, a: &SetValue, b: &SetValue, x: i64) -> bool
+        ensures { IsTrue result ↔ ResultHas self a.now b.now x }
+    {
+        match self {
+            SetOperation::Union => a.has(x) || b.has(x),
+            SetOperation::Intersection => a.has(x) && b.has(x),
+            SetOperation::Difference => a.has(x) && !b.has(x),
+            SetOperation::SymmetricDifference => a.has(x) != b.has(x),
+        }
     }
 }
 
@@ -112,17 +155,24 @@ fn all_in(items: &[i64], set: &SetValue) -> bool
     items.iter().all(|x| set.has(*x))
 }
 
-fn all_in_either(items: &[i64], a: &SetValue, b: &SetValue) -> bool
-    ensures { IsTrue result ↔ All (EitherHas a.now b.now) items.now }
+fn all_agree(
+    items: &[i64],
+    set: &SetValue,
+    operation: SetOperation,
+    a: &SetValue,
+    b: &SetValue,
+) -> bool
+    ensures { IsTrue result ↔ All (AgreesAt operation a.now b.now set.now) items.now }
 {
-    items.iter().all(|x| in_either(*x, a, b))
+    items.iter().all(|x| agrees(*x, set, operation, a, b))
 }
 
-#[tactic(auto, unfolding(crate::specs::Sets::EitherHas))]
-fn in_either(x: i64, a: &SetValue, b: &SetValue) -> bool
-    ensures { IsTrue result ↔ EitherHas a.now b.now x }
+#[tactic(auto, unfolding(crate::specs::Operations::AgreesAt))]
+/// Whether the set has `x` just where the operation gives it on `a` and `b`.
+fn agrees(x: i64, set: &SetValue, operation: SetOperation, a: &SetValue, b: &SetValue) -> bool
+    ensures { IsTrue result ↔ AgreesAt operation a.now b.now set.now x }
 {
-    a.has(x) || b.has(x)
+    set.has(x) == operation.gives(a, b, x)
 }
 
 /// How many integers there are from `lo` to `hi`, both included.
@@ -142,6 +192,8 @@ mod tests {
     fn makes_sets(rt: HostRuntime) -> Result<(), Fail> {
         let listed = SetValue::from_list(rt.alloc(), [3, -2, 3, 1].as_slice())?;
         assert_eq!(rt; listed.elements(), [-2, 1, 3].as_slice());
+        let copied = listed.copy(rt.alloc())?;
+        assert_eq!(rt; copied.elements(), [-2, 1, 3].as_slice());
         let range = SetValue::from_range(rt.alloc(), -1, 2)?;
         assert_eq!(rt; range.elements(), [-1, 0, 1, 2].as_slice());
         let empty = SetValue::from_range(rt.alloc(), 1, 0)?;

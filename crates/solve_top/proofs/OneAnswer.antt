@@ -4,7 +4,7 @@ use Rattle.std.proofs.lemmas.List.{append-nil}
 use Rattle.set_meaning.specs.declared.kinds.Value.{Value}
 use Rattle.set_meaning.specs.declared.problems.Problem.{Problem}
 use Rattle.set_meaning.specs.Solutions.{IsSolution, HasNoSolution, IsCovered, AreAnswers, CoverAll}
-use Rattle.solve_top.specs.Block.{block}
+use Rattle.fzn_printer.specs.Block.{block}
 use Rattle.solve_top.specs.Answers.{IsOutText, no_solution}
 
 -- nothing covers where there are no answers

@@ -5,7 +5,7 @@ use Rattle.set_meaning.specs.declared.kinds.Value.{Value}
 use Rattle.set_meaning.specs.declared.problems.Problem.{Problem}
 use Rattle.set_meaning.specs.Solutions.{AreAnswers, CoverAll}
 use Rattle.first_form.specs.FirstForm.{IsFirstForm}
-use Rattle.solve_top.specs.Block.{block}
+use Rattle.fzn_printer.specs.Block.{block}
 
 -- the line that says that there is no solution
 abbrev pub no_solution : List ℕ

@@ -1,4 +1,3 @@
-pub mod Block
 pub mod Enumeration
 pub mod Answers
 pub mod Words

@@ -1,15 +1,14 @@
 //! How a run can end, with its status and what it prints last.
 
-ghost use Rattle.std.specs.Prelude.{◌≡◌, IfOk, All};
-ghost use Rattle.first_form.specs.FirstForm.{IsScalar};
+ghost use Rattle.std.specs.Prelude.{◌≡◌, IfOk};
 ghost use Rattle.set_meaning.specs.Solutions.{IsSolution, HasNoSolution};
 ghost use Rattle.solve_top.specs.Answers.{IsOutText};
 ghost use Rattle.solve_top.specs.Endings.{ending_status, ending_text, EndsProblem, EndsText};
 
-use crate::block::block;
 use crate::enumeration::first_solution;
 use crate::solving::Status;
 use first_form::{FirstFault, read_first};
+use fzn_printer::{UNSATISFIABLE, block};
 use set_meaning::{Problem, Value};
 use std::alloc::{AllocError, Global};
 
@@ -65,7 +64,6 @@ pub fn ending_of_text(alloc: Global, text: &[u8]) -> Ending
 
 /// Answers a problem.
 fn ending_of_problem(alloc: Global, p: &Problem) -> Ending
-    requires { All IsScalar p.now.shown }
     ensures { EndsProblem p.now (ending_status result) (ending_text result) }
 {
     match answer(alloc, p) {
@@ -76,7 +74,6 @@ fn ending_of_problem(alloc: Global, p: &Problem) -> Ending
 
 /// The block of the first solution, or the line that says that there is none.
 fn answer(alloc: Global, p: &Problem) -> Result<Vec<u8>, AllocError>
-    requires { All IsScalar p.now.shown }
     ensures { IfOk result (λ out. IsOutText p.now out.items) }
 {
     match first_solution(alloc, p)? {
@@ -86,8 +83,7 @@ fn answer(alloc: Global, p: &Problem) -> Result<Vec<u8>, AllocError>
 }
 
 fn block_of(alloc: Global, p: &Problem, values: &[Value]) -> Result<Vec<u8>, AllocError>
-    requires scalars { All IsScalar p.now.shown }
-    requires solution { IsSolution p.now values.now }
+    requires { IsSolution p.now values.now }
     ensures { IfOk result (λ out. IsOutText p.now out.items) }
 {
     block(alloc, p, values)
@@ -98,5 +94,5 @@ fn no_solution(alloc: Global, p: &Problem) -> Result<Vec<u8>, AllocError>
     ensures { IfOk result (λ out. IsOutText p.now out.items) }
 {
     let _ = p;
-    Vec::from_slice(alloc, b"=====UNSATISFIABLE=====\n")
+    Vec::from_slice(alloc, UNSATISFIABLE)
 }

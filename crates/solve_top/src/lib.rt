@@ -1,7 +1,6 @@
 //! The top call of `setsolve`: from the words of its command line and a desk to what it prints and its status.
 #![tactic(auto)]
 
-mod block;
 mod ending;
 mod enumeration;
 mod solving;
