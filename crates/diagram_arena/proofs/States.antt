@@ -15,9 +15,8 @@ use Rattle.diagram_arena.specs.declared.nodes.Ref.TheVariants as ref
 use Rattle.diagram_arena.specs.declared.nodes.Stop.{Stop}
 use Rattle.diagram_arena.specs.declared.nodes.Triple.{Triple}
 use Rattle.diagram_arena.specs.declared.nodes.Node.{Node}
-use Rattle.diagram_arena.specs.declared.hash_consing.TheConstants.{MAX_LIMIT}
 use Rattle.diagram_arena.specs.Table.{Table, id_cmp, bit_end, IsLive, IsReduced}
-use Rattle.diagram_arena.specs.Arena.{ArenaState, table, triple, triple_of, new_node, CanMake, IsNeeded, AddsNode, IsMade, node_added, KeepsNodes, NewAreUntagged, Grows, Joins, ChangesNode}
+use Rattle.diagram_arena.specs.Arena.{most_nodes, ArenaState, table, triple, triple_of, new_node, CanMake, IsNeeded, AddsNode, IsMade, node_added, KeepsNodes, NewAreUntagged, Grows, Joins, ChangesNode}
 use Rattle.diagram_arena.specs.Body.{id, state_of, IsIndex, IsKept}
 use Rattle.diagram_arena.proofs.Growth.{Adds, adds_reduced, adds_grows, adds_only, joins_node, grows_self}
 use Rattle.diagram_arena.proofs.Ids.{same_id, cases_id, id_cmp_total, tied_same, tied_other}
@@ -157,7 +156,7 @@ kept_push ns limit es fs n kept can needed small room put =
 no_nodes : (limit : ℕ) (i : NodeId) (n : Triple) → table (state_of [] limit) i ≡ Some n → ⊥
 no_nodes limit i n is = let none : table (state_of [] limit) i ≡ None = table-state_of [] limit i in let no : None ≡ Some n = sym none ∙ is in cc
 
-pub kept_new : (limit : ℕ) → 0 < limit → limit ≤ MAX_LIMIT → IsKept [] limit []
+pub kept_new : (limit : ℕ) → 0 < limit → limit ≤ most_nodes → IsKept [] limit []
 kept_new limit some most = record {
   reduced = record {
     small = λ i n is. absurd (no_nodes limit i n is);

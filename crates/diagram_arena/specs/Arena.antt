@@ -13,6 +13,10 @@ use Rattle.diagram_arena.specs.declared.nodes.Node.{Node}
 use Rattle.diagram_arena.specs.Table.{Word, Words, Table, id_cmp, child, bit_end, has, IsLive, depth}
 use Rattle.diagram_arena.specs.Part.{IsPartOf}
 
+-- the greatest limit that an arena may have
+abbrev pub most_nodes : ℕ
+most_nodes = 20000000
+
 -- the nodes under their ids, and how many there may be
 pub record ArenaState : Type 0 where
   pub nodes : map.FinMap id_cmp Node

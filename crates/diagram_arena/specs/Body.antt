@@ -8,9 +8,8 @@ use Rattle.diagram_arena.specs.declared.nodes.Ref.TheVariants as ref
 use Rattle.diagram_arena.specs.declared.nodes.Triple.{Triple}
 use Rattle.diagram_arena.specs.declared.nodes.Node.{Node}
 use Rattle.diagram_arena.specs.declared.hash_consing.Arena.TheInside.{Inside}
-use Rattle.diagram_arena.specs.declared.hash_consing.TheConstants.{MAX_LIMIT}
 use Rattle.diagram_arena.specs.Table.{Table, IsReduced}
-use Rattle.diagram_arena.specs.Arena.{ArenaState, table}
+use Rattle.diagram_arena.specs.Arena.{most_nodes, ArenaState, table}
 
 -- whether two refs are one
 abbrev pub same_ref : Ref → Ref → Bool
@@ -53,7 +52,7 @@ pub record IsKept (ns : List Node) (limit : ℕ) (entries : List (Triple × Node
   pub reduced : IsReduced (table (state_of ns limit))
   pub few : length ns ≤ limit
   pub some : 0 < limit
-  pub most : limit ≤ MAX_LIMIT
+  pub most : limit ≤ most_nodes
   pub indexed : IsIndex (table (state_of ns limit)) entries
 
 abbrev pub IsArena : Inside → Type 0

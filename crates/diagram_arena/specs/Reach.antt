@@ -1,5 +1,6 @@
 -- What a ref reaches by paths of sides, and which bits a set of words depends on.
-use Rattle.std.specs.Prelude.{◌≡◌, ℕ, Bool, true, List, [], ◌∷◌, Some}
+use Rattle.std.specs.Prelude.{◌≡◌, ℕ, ◌==◌, ◌||◌, Bool, true, false, List, [], ◌∷◌, Some}
+use Rattle.std.specs.List.{list_any}
 use Rattle.std.specs.Option.{option_map_or}
 use Rattle.diagram_arena.specs.declared.nodes.NodeId.{NodeId}
 use Rattle.diagram_arena.specs.declared.nodes.Ref.{Ref}
@@ -10,6 +11,10 @@ use Rattle.diagram_arena.specs.Table.{Word, Words, Table, child}
 -- a set of bits
 abbrev pub Bits : Type 0
 Bits = ℕ → Bool
+
+-- the bits that a list holds
+abbrev pub among : List ℕ → Bits
+among bits b = list_any (λ c. b == c) bits
 
 -- one step to a side; Zero and One have no sides
 abbrev pub step : Table → Ref → Bool → Ref

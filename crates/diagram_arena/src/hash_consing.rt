@@ -5,14 +5,14 @@ ghost use Rattle.diagram_arena.specs.declared.nodes.NodeId.{NodeId};
 ghost use Rattle.diagram_arena.specs.declared.nodes.Node.{Node};
 ghost use Rattle.diagram_arena.specs.Table.{Word, has, IsLive, IsReduced};
 ghost use Rattle.diagram_arena.specs.Reach.{Bits, ReachesOnly, DependsOn};
-ghost use Rattle.diagram_arena.specs.Arena.{table, tag_of, triple_of, CanMake, IsNeeded, AddsNode, IsMade, KeepsNodes, NewAreUntagged, Grows, Joins, Stands, ChangesNode};
+ghost use Rattle.diagram_arena.specs.Arena.{most_nodes, table, tag_of, triple_of, CanMake, IsNeeded, AddsNode, IsMade, KeepsNodes, NewAreUntagged, Grows, Joins, Stands, ChangesNode};
 
 use crate::nodes::{Node, NodeId, Ref, Stop, Triple};
 use std::alloc::Global;
 use std::collections::HashMap;
 use std::marker::Model;
 
-/// The greatest limit that an arena may have.
+/// The greatest limit that an arena may have: `most_nodes` of the contracts.
 pub const MAX_LIMIT: u32 = 20_000_000;
 
 /// The nodes of ordered, reduced decision diagrams: a bit is greater than those above it, the children
@@ -43,7 +43,7 @@ impl Arena {
     /// An arena with no nodes, that will hold at most `limit` nodes: 1 to `MAX_LIMIT`. It takes no memory.
     pub fn new(alloc: Global, limit: u32) -> Arena
         requires some { 0 < limit }
-        requires most { limit ≤ MAX_LIMIT }
+        requires most { limit ≤ most_nodes }
         ensures empty { result ≡ record { nodes = map.empty; limit = limit } }
         ensures reduced { IsReduced (table result) }
     {
@@ -149,7 +149,7 @@ impl Arena {
     pub fn limit(&self) -> u32
         ensures value { result ≡ self.now.limit }
         ensures some { 0 < self.now.limit }
-        ensures most { self.now.limit ≤ MAX_LIMIT }
+        ensures most { self.now.limit ≤ most_nodes }
     {
         self.limit
     }

@@ -11,7 +11,7 @@ use Rattle.diagram_arena.proofs.Canonical.{has-child}
 use Rattle.diagram_ops.specs.Words.{without, Lies, Leaves, Denotes}
 
 -- each ref but Zero has a word
-has_word : (t : Table) → IsReduced t → (r : Ref) → IsLive t r → (r ≡ Zero) ⊎ ((w : Word) × (has t r w ≡ true))
+pub has_word : (t : Table) → IsReduced t → (r : Ref) → IsLive t r → (r ≡ Zero) ⊎ ((w : Word) × (has t r w ≡ true))
 has_word t ok r live =
     induct t ok (λ s. (s ≡ Zero) ⊎ ((w : Word) × (has t s w ≡ true))) (inl refl) (inr ((λ _. true), has-one t (λ _. true)))
     (λ i n at sides. elim (sides false) [

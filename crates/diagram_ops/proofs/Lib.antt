@@ -6,3 +6,6 @@ pub mod Pinned
 pub mod Exits
 pub mod Results
 pub mod Insides
+pub mod Projections
+pub mod Kept
+pub mod Projecting

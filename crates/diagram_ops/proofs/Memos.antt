@@ -1,6 +1,7 @@
 -- The memo: its entries stay right in a table that grows, and one entry more is right too.
-use Rattle.std.proofs.Common.{◌≡◌, Bool, true, cond, ◌&&◌, List, [], Option, Some, None, refl, sym, ◌∙◌, ap, subst, inl, inr}
+use Rattle.std.proofs.Common.{◌≡◌, Bool, true, false, eqb, cond, ◌&&◌, List, [], Option, Some, None, refl, sym, ◌∙◌, ap, subst, inl, inr}
 use Rattle.std.specs.Prelude.{IfSome}
+use mathlib.Core.Bool.{beq}
 use Rattle.std.specs.Map.{lookup}
 use Rattle.std.proofs.lemmas.Bool.{cases_Bool, eqb-true, and_parts}
 use Rattle.diagram_arena.specs.declared.nodes.Ref.{Ref}
@@ -12,6 +13,7 @@ use Rattle.diagram_arena.proofs.Ids.{same_id}
 use Rattle.diagram_ops.specs.declared.question.Op.{Op}
 use Rattle.diagram_ops.specs.declared.question.Op.TheVariants.{And, Or, Diff}
 use Rattle.diagram_ops.specs.declared.question.Question.{Question}
+use Rattle.diagram_ops.specs.declared.question.Question.TheVariants.{Combine, Restrict}
 use Rattle.diagram_ops.specs.contracts.question.OpPartialEq.TheImpl.{eq-value as of_ops}
 use Rattle.diagram_ops.specs.contracts.question.QuestionPartialEq.TheImpl.{eq-value}
 use Rattle.diagram_ops.specs.Steps.{IsAnswer}
@@ -22,7 +24,7 @@ use Rattle.diagram_ops.proofs.Steps.{answer_grows}
 abbrev pub derived : Question → Question → Bool
 derived = eq-value.it
 
-ref_true : (r s : Ref) → of_refs.it r s ≡ true → r ≡ s
+pub ref_true : (r s : Ref) → of_refs.it r s ≡ true → r ≡ s
 ref_true Zero Zero e = refl
 ref_true Zero One e = cc
 ref_true Zero (Node j) e = cc
@@ -44,19 +46,34 @@ op_true Diff And e = cc
 op_true Diff Or e = cc
 op_true Diff Diff e = refl
 
+bool_true : (v w : Bool) → beq v w ≡ true → v ≡ w
+bool_true true true e = refl
+bool_true true false e = cc
+bool_true false true e = cc
+bool_true false false e = refl
+
 pub question_true : (p q : Question) → derived p q ≡ true → p ≡ q
-question_true p q e =
-    let ops = and_parts (of_ops.it p.op q.op) (of_refs.it p.f q.f && of_refs.it p.g q.g) e in
-    let refs = and_parts (of_refs.it p.f q.f) (of_refs.it p.g q.g) ops.1 in
-    let o : p.op ≡ q.op = op_true p.op q.op ops.0 in
-    let a : p.f ≡ q.f = ref_true p.f q.f refs.0 in
-    let b : p.g ≡ q.g = ref_true p.g q.g refs.1 in
-    λ i. record { op = o i; f = a i; g = b i }
+question_true (Combine a f g) (Combine b h k) e =
+    let ops = and_parts (of_ops.it a b) (of_refs.it f h && of_refs.it g k) e in
+    let refs = and_parts (of_refs.it f h) (of_refs.it g k) ops.1 in
+    let o : a ≡ b = op_true a b ops.0 in
+    let x : f ≡ h = ref_true f h refs.0 in
+    let y : g ≡ k = ref_true g k refs.1 in
+    λ i. Combine (o i) (x i) (y i)
+question_true (Combine a f g) (Restrict h c w) e = cc
+question_true (Restrict f b v) (Combine a h k) e = cc
+question_true (Restrict f b v) (Restrict h c w) e =
+    let refs = and_parts (of_refs.it f h) (eqb b c && beq v w) e in
+    let rest = and_parts (eqb b c) (beq v w) refs.1 in
+    let x : f ≡ h = ref_true f h refs.0 in
+    let y : b ≡ c = eqb-true b c rest.0 in
+    let z : v ≡ w = bool_true v w rest.1 in
+    λ i. Restrict (x i) (y i) (z i)
 
 pub memo_grows : (t u : Table) (es : List (Question × Ref)) → Grows t u → IsMemo t es → IsMemo u es
-memo_grows t u es grown memo q r is = answer_grows t u grown q.op q.f q.g r (memo q r is)
+memo_grows t u es grown memo q r is = answer_grows t u grown q r (memo q r is)
 
-pub memo_puts : (t : Table) (es fs : List (Question × Ref)) (p : Question) (s : Ref) → IsMemo t es → IsAnswer t p.op p.f p.g s
+pub memo_puts : (t : Table) (es fs : List (Question × Ref)) (p : Question) (s : Ref) → IsMemo t es → IsAnswer t p s
     → ((q : Question) → lookup (derived q) fs ≡ cond (derived p q) (Some s) (lookup (derived q) es)) → IsMemo t fs
 memo_puts t es fs p s memo answer put q r is =
     elim (cases_Bool (derived p q)) [
@@ -64,7 +81,7 @@ memo_puts t es fs p s memo answer put q r is =
           let here : lookup (derived q) fs ≡ Some s = put q ∙ ap (λ b. cond b (Some s) (lookup (derived q) es)) same in
           let e : Some r ≡ Some s = sym is ∙ here in
           let e' : s ≡ r = (cc) in
-          subst (λ (x : Question). IsAnswer t x.op x.f x.g r) (question_true p q same) (subst (IsAnswer t p.op p.f p.g) e' answer)
+          subst (λ x. IsAnswer t x r) (question_true p q same) (subst (IsAnswer t p) e' answer)
       | inr other ↦
           let there : lookup (derived q) fs ≡ lookup (derived q) es = put q ∙ ap (λ b. cond b (Some s) (lookup (derived q) es)) other in
           memo q r (sym there ∙ is)
@@ -73,6 +90,6 @@ memo_puts t es fs p s memo answer put q r is =
 pub memo_empty : (t : Table) → IsMemo t []
 memo_empty t q r is = let no : None ≡ Some r = is in absurd (cc)
 
-pub recalled : (t : Table) (es : List (Question × Ref)) (q : Question) (o : Option Ref) → IsMemo t es → o ≡ lookup (derived q) es → IfSome o (IsAnswer t q.op q.f q.g)
+pub recalled : (t : Table) (es : List (Question × Ref)) (q : Question) (o : Option Ref) → IsMemo t es → o ≡ lookup (derived q) es → IfSome o (IsAnswer t q)
 recalled t es q None memo is = tt
 recalled t es q (Some r) memo is = memo q r (sym is)

@@ -1,16 +1,19 @@
--- A shortcut is right in every table.
-use Rattle.std.proofs.Common.{◌≡◌, Bool, true, false, not, ◌&&◌, ◌||◌, eqb, cond, Some, None, refl, sym, ◌∙◌, ap, subst, inl, inr, ◌⊎◌, arith}
-use Rattle.std.specs.Prelude.{if◌then◌else◌}
+-- Answers that are seen at once are right in every table.
+use Rattle.std.proofs.Common.{◌≡◌, ℕ, ◌<◌, ◌≤◌, min, Bool, true, false, not, ◌&&◌, ◌||◌, eqb, cond, Option, Some, None, refl, sym, ◌∙◌, ap, subst, inl, inr, ◌⊎◌, arith}
+use Rattle.std.specs.Prelude.{if◌then◌else◌, IfSome, IfNone}
 use Rattle.std.proofs.lemmas.Bool.{cases_Bool, eqb-true}
 use Rattle.diagram_arena.specs.declared.nodes.NodeId.{NodeId}
 use Rattle.diagram_arena.specs.declared.nodes.Ref.{Ref}
 use Rattle.diagram_arena.specs.declared.nodes.Ref.TheVariants as ref
-use Rattle.diagram_arena.specs.Table.{Word, Table, has, IsLive, depth, IsReduced}
-use Rattle.diagram_arena.proofs.Meaning.{has-zero, has-one, depth-zero, depth-one, depth_within}
+use Rattle.diagram_arena.specs.declared.nodes.Triple.{Triple}
+use Rattle.diagram_arena.specs.Table.{Word, Table, child, has, IsLive, depth, IsReduced}
+use Rattle.diagram_arena.specs.Part.{with_bit}
+use Rattle.diagram_arena.proofs.Meaning.{has-zero, has-one, depth-zero, depth-one, depth-at, depth_within, live_from}
+use Rattle.diagram_arena.proofs.Canonical.{has-above, has-child}
 use Rattle.diagram_arena.proofs.Ids.{same_id}
 use Rattle.diagram_ops.specs.declared.question.Op.{Op}
 use Rattle.diagram_ops.specs.declared.question.Op.TheVariants.{And, Or, Diff}
-use Rattle.diagram_ops.specs.Words.{IsAsDeep}
+use Rattle.diagram_ops.specs.declared.question.Question.TheVariants.{Combine, Restrict}
 use Rattle.diagram_ops.specs.Steps.{combine, shortcut_of, HasNode, IsAnswer}
 
 -- r is Zero, One, f or g
@@ -163,25 +166,75 @@ among_live t f g r f_live g_live among =
       | inr one ↦ elim one [ inl e ↦ subst (IsLive t) (sym e) f_live | inr e ↦ subst (IsLive t) (sym e) g_live ]
     ]
 
-among_deep : (t : Table) → IsReduced t → (f g r : Ref) → IsLive t f → IsAmong f g r → IsAsDeep t f g r
-among_deep t ok f g r f_live among b at at' =
+among_deep : (t : Table) → IsReduced t → (f g r : Ref) → IsLive t f → IsAmong f g r → min (depth t f) (depth t g) ≤ depth t r
+among_deep t ok f g r f_live among =
     let within = depth_within t ok f f_live in
     elim among [
       | inl ends ↦ elim ends [
-        | inl e ↦ let deep = ap (depth t) e ∙ depth-zero t in omega (arith, deep, within, at)
-        | inr e ↦ let deep = ap (depth t) e ∙ depth-one t in omega (arith, deep, within, at)
+        | inl e ↦ let deep = ap (depth t) e ∙ depth-zero t in omega (arith, deep, within)
+        | inr e ↦ let deep = ap (depth t) e ∙ depth-one t in omega (arith, deep, within)
       ]
       | inr one ↦ elim one [
-        | inl e ↦ let same = ap (depth t) e in omega (arith, same, at)
-        | inr e ↦ let same = ap (depth t) e in omega (arith, same, at')
+        | inl e ↦ let same = ap (depth t) e in omega (arith, same)
+        | inr e ↦ let same = ap (depth t) e in omega (arith, same)
       ]
     ]
 
-pub short_answer : (t : Table) → IsReduced t → (op : Op) (f g r : Ref) → IsLive t f → IsLive t g → IsShort op f g r → IsAnswer t op f g r
+pub short_answer : (t : Table) → IsReduced t → (op : Op) (f g r : Ref) → IsLive t f → IsLive t g → IsShort op f g r → IsAnswer t (Combine op f g) r
 short_answer t ok op f g r f_live g_live is = record {
-  f_live = f_live;
-  g_live = g_live;
+  given = (f_live, g_live);
   live = among_live t f g r f_live g_live is.among;
   deep = among_deep t ok f g r f_live is.among;
   words = is.words t;
 }
+
+-- a shortcut that is taken is an answer, and without one there is a node to look at
+pub short_found : (t : Table) → IsReduced t → (op : Op) (f g : Ref) (o : Option Ref) → IsLive t f → IsLive t g → o ≡ shortcut_of op f g → IfSome o (IsAnswer t (Combine op f g))
+short_found t ok op f g None f_live g_live e = tt
+short_found t ok op f g (Some r) f_live g_live e = short_answer t ok op f g r f_live g_live (short_is op f g r (sym e))
+
+pub short_step : (op : Op) (f g : Ref) (o : Option Ref) → o ≡ shortcut_of op f g → IfNone o (HasNode f g)
+short_step op f g None e = short_none op f g (sym e)
+short_step op f g (Some r) e = tt
+
+-- a ref that asks no bit up to this one is its own restriction
+pub restricts_above : (t : Table) → IsReduced t → (f : Ref) → IsLive t f → (bit : ℕ) (v : Bool) → bit < depth t f → IsAnswer t (Restrict f bit v) f
+restricts_above t ok f live bit v above = record {
+  given = live;
+  live = live;
+  deep = omega arith;
+  words = λ w. sym (has-above t ok f live bit above w v);
+}
+
+pub restricts_zero : (t : Table) (f : Ref) (bit : ℕ) (v : Bool) → f ≡ ref.Zero → IsAnswer t (Restrict f bit v) f
+restricts_zero t f bit v e = subst (λ s. IsAnswer t (Restrict s bit v) s) (sym e) (record {
+  given = tt;
+  live = tt;
+  deep = omega arith;
+  words = λ w. has-zero t w ∙ sym (has-zero t (with_bit w bit v));
+})
+
+pub restricts_one : (t : Table) (f : Ref) (bit : ℕ) (v : Bool) → f ≡ ref.One → IsAnswer t (Restrict f bit v) f
+restricts_one t f bit v e = subst (λ s. IsAnswer t (Restrict s bit v) s) (sym e) (record {
+  given = tt;
+  live = tt;
+  deep = omega arith;
+  words = λ w. has-one t w ∙ sym (has-one t (with_bit w bit v));
+})
+
+pub restricts_below : (t : Table) → IsReduced t → (f : Ref) (i : NodeId) (n : Triple) (bit : ℕ) (v : Bool) → f ≡ ref.Node i → t i ≡ Some n → bit < n.bit → IsAnswer t (Restrict f bit v) (ref.Node i)
+restricts_below t ok f i n bit v e is below =
+    let at = depth-at t i n is in
+    subst (λ s. IsAnswer t (Restrict s bit v) (ref.Node i)) (sym e) (restricts_above t ok (ref.Node i) (live_from t i n is) bit v (omega (arith, at, below)))
+
+-- a node that asks this bit has its child as its restriction
+pub restricts_there : (t : Table) → IsReduced t → (f : Ref) (i : NodeId) (n : Triple) (bit : ℕ) (v : Bool) → f ≡ ref.Node i → t i ≡ Some n → n.bit ≡ bit → IsAnswer t (Restrict f bit v) (child n v)
+restricts_there t ok f i n bit v e is same =
+    let at = depth-at t i n is in
+    let deeper = ok.deeper i n v is in
+    subst (λ s. IsAnswer t (Restrict s bit v) (child n v)) (sym e) (subst (λ b. IsAnswer t (Restrict (ref.Node i) b v) (child n v)) same (record {
+      given = live_from t i n is;
+      live = ok.live i n v is;
+      deep = omega (arith, at, deeper);
+      words = λ w. sym (has-child t ok i n is w v);
+    }))

@@ -1,16 +1,19 @@
 -- The sides of a ref at a bit.
 use Rattle.std.proofs.Common.{◌≡◌, ◌≢◌, ℕ, ◌+◌, ◌<◌, ◌≤◌, ◌^◌, Bool, true, false, Some, refl, sym, ◌∙◌, ap, subst, arith}
 use Rattle.std.proofs.lemmas.Bool.Decides.{nat_tests}
+use mathlib.Core.Path.{fun_ext}
 use Rattle.diagram_arena.specs.declared.nodes.NodeId.{NodeId}
 use Rattle.diagram_arena.specs.declared.nodes.Ref.{Ref}
 use Rattle.diagram_arena.specs.declared.nodes.Ref.TheVariants.{Zero, One, Node}
 use Rattle.diagram_arena.specs.declared.nodes.Triple.{Triple}
 use Rattle.diagram_arena.specs.Table.{Word, Table, child, bit_end, has, IsLive, depth, IsReduced}
-use Rattle.diagram_arena.specs.Part.{with_front}
-use Rattle.diagram_arena.specs.Arena.{triple, Grows}
+use Rattle.diagram_arena.specs.Part.{with_bit, with_front, IsPartOf}
+use Rattle.diagram_arena.specs.Arena.{triple}
 use Rattle.diagram_arena.proofs.Meaning.{bit_end_is, has-zero, has-one, depth-zero, depth-one, depth-at, has-at}
 use Rattle.diagram_arena.proofs.Canonical.{has-agree}
-use Rattle.diagram_ops.specs.Steps.{IsSplit}
+use Rattle.diagram_ops.specs.declared.question.Op.{Op}
+use Rattle.diagram_ops.specs.declared.question.Question.TheVariants.{Combine, Restrict}
+use Rattle.diagram_ops.specs.Steps.{combine, side, first, AreLive, asked, IsSplit, IsStep}
 
 front-at : (b : ℕ) (v : Bool) (w : Word) → with_front (b + 1) (λ _. v) w b ≡ v
 front-at b v w = grind (arith, nat_tests)
@@ -72,12 +75,69 @@ split_below t ok r bit i n live e at above differ =
     let below : bit < depth t r = omega (arith, above, level, differ) in
     subst (λ s. IsSplit t r bit s s) e (split_above t ok r live bit below)
 
--- sides stay sides in a table that grows
-pub split_grows : (t u : Table) → Grows t u → (r : Ref) → IsLive t r → (bit : ℕ) (lo hi : Ref) → IsSplit t r bit lo hi → IsSplit u r bit lo hi
-split_grows t u grown r live bit lo hi is = record {
-  live = λ v. grown.live _ (is.live v);
-  deeper = λ v. let same = grown.depths _ (is.live v) in let deeper = is.deeper v in omega (arith, same, deeper);
-  rises = λ v. let same = grown.depths _ (is.live v) in let same' = grown.depths r live in let rises = is.rises v in omega (arith, same, same', rises);
-  words = λ w. grown.words r live w ∙ is.words w ∙ sym (grown.words _ (is.live (w bit)) w);
-  front = λ v w. grown.words _ (is.live v) w ∙ is.front v w ∙ sym (grown.words r live (with_front (bit + 1) (λ _. v) w));
+-- a side is a part of the ref's set
+pub side_is_part : (t : Table) (f : Ref) (bit : ℕ) (lo hi : Ref) → IsSplit t f bit lo hi → (v : Bool) → IsPartOf (has t (child (triple bit lo hi) v)) (has t f)
+side_is_part t f bit lo hi is v = record {
+  from = bit + 1;
+  front = λ _. v;
+  same = is.front v;
+}
+
+-- a step of an operation is a step of both refs
+combine_live : (t : Table) (op : Op) (f g : Ref) (bit : ℕ) (f_lo f_hi g_lo g_hi : Ref) → IsSplit t f bit f_lo f_hi → IsSplit t g bit g_lo g_hi → (v : Bool)
+    → AreLive t (side (Combine op f_lo g_lo) (Combine op f_hi g_hi) v)
+combine_live t op f g bit f_lo f_hi g_lo g_hi fs gs true = (fs.live true, gs.live true)
+combine_live t op f g bit f_lo f_hi g_lo g_hi fs gs false = (fs.live false, gs.live false)
+
+combine_deeper : (t : Table) (op : Op) (f g : Ref) (bit : ℕ) (f_lo f_hi g_lo g_hi : Ref) → IsSplit t f bit f_lo f_hi → IsSplit t g bit g_lo g_hi → (v : Bool)
+    → bit < first t (side (Combine op f_lo g_lo) (Combine op f_hi g_hi) v)
+combine_deeper t op f g bit f_lo f_hi g_lo g_hi fs gs true = let a = fs.deeper true in let b = gs.deeper true in omega (arith, a, b)
+combine_deeper t op f g bit f_lo f_hi g_lo g_hi fs gs false = let a = fs.deeper false in let b = gs.deeper false in omega (arith, a, b)
+
+-- what a side asks for, from what both refs' sides have
+combine_asked : (t : Table) (op : Op) (f_lo f_hi g_lo g_hi : Ref) (bit : ℕ) (v : Bool) (w : Word)
+    → asked t (side (Combine op f_lo g_lo) (Combine op f_hi g_hi) v) w ≡ combine op (has t (child (triple bit f_lo f_hi) v) w) (has t (child (triple bit g_lo g_hi) v) w)
+combine_asked t op f_lo f_hi g_lo g_hi bit true w = refl
+combine_asked t op f_lo f_hi g_lo g_hi bit false w = refl
+
+pub combine_step : (t : Table) (op : Op) (f g : Ref) (bit : ℕ) (f_lo f_hi g_lo g_hi : Ref) → IsSplit t f bit f_lo f_hi → IsSplit t g bit g_lo g_hi
+    → IsStep t (Combine op f g) bit (Combine op f_lo g_lo) (Combine op f_hi g_hi)
+combine_step t op f g bit f_lo f_hi g_lo g_hi fs gs = record {
+  live = combine_live t op f g bit f_lo f_hi g_lo g_hi fs gs;
+  deeper = combine_deeper t op f g bit f_lo f_hi g_lo g_hi fs gs;
+  words = λ w. (λ i. combine op (fs.words w i) (gs.words w i)) ∙ sym (combine_asked t op f_lo f_hi g_lo g_hi bit (w bit) w);
+  front = λ v w. combine_asked t op f_lo f_hi g_lo g_hi bit v w ∙ (λ i. combine op (fs.front v w i) (gs.front v w i));
+}
+
+-- a step of a restriction is a step of its ref, at a lesser bit
+restrict_live : (t : Table) (f : Ref) (bit at : ℕ) (value : Bool) (lo hi : Ref) → IsSplit t f bit lo hi → (v : Bool) → AreLive t (side (Restrict lo at value) (Restrict hi at value) v)
+restrict_live t f bit at value lo hi is true = is.live true
+restrict_live t f bit at value lo hi is false = is.live false
+
+restrict_deeper : (t : Table) (f : Ref) (bit at : ℕ) (value : Bool) (lo hi : Ref) → IsSplit t f bit lo hi → (v : Bool) → bit < first t (side (Restrict lo at value) (Restrict hi at value) v)
+restrict_deeper t f bit at value lo hi is true = is.deeper true
+restrict_deeper t f bit at value lo hi is false = is.deeper false
+
+restrict_asked : (t : Table) (bit at : ℕ) (value : Bool) (lo hi : Ref) (v : Bool) (w : Word)
+    → asked t (side (Restrict lo at value) (Restrict hi at value) v) w ≡ has t (child (triple bit lo hi) v) (with_bit w at value)
+restrict_asked t bit at value lo hi true w = refl
+restrict_asked t bit at value lo hi false w = refl
+
+set-elsewhere : (a b : ℕ) (value : Bool) (w : Word) → a < b → with_bit w b value a ≡ w a
+set-elsewhere a b value w below = grind (arith, nat_tests)
+
+-- the first bits and a greater bit are set in either order
+front-with_bit : (bit at : ℕ) (value v : Bool) (w : Word) (b : ℕ) → bit < at → with_front (bit + 1) (λ _. v) (with_bit w at value) b ≡ with_bit (with_front (bit + 1) (λ _. v) w) at value b
+front-with_bit bit at value v w b below = grind (arith, nat_tests)
+
+pub restrict_step : (t : Table) (f : Ref) (bit at : ℕ) (value : Bool) (lo hi : Ref) → bit < at → IsSplit t f bit lo hi
+    → IsStep t (Restrict f at value) bit (Restrict lo at value) (Restrict hi at value)
+restrict_step t f bit at value lo hi below is = record {
+  live = restrict_live t f bit at value lo hi is;
+  deeper = restrict_deeper t f bit at value lo hi is;
+  words = λ w. let u : Word = with_bit w at value in
+      is.words u ∙ ap (λ v. has t (child (triple bit lo hi) v) u) (set-elsewhere bit at value w below)
+      ∙ sym (restrict_asked t bit at value lo hi (w bit) w);
+  front = λ v w. restrict_asked t bit at value lo hi v w ∙ is.front v (with_bit w at value)
+      ∙ ap (has t f) (fun_ext (λ b. front-with_bit bit at value v w b below));
 }

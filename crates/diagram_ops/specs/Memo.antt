@@ -9,9 +9,9 @@ use Rattle.diagram_ops.specs.contracts.question.QuestionPartialEq.TheImpl.{eq-va
 use Rattle.diagram_ops.specs.declared.operations.Ops.TheInside.{Inside}
 use Rattle.diagram_ops.specs.Steps.{IsAnswer}
 
--- each entry is a right result, of refs that are there
+-- each entry is the answer to its question, of refs that are there
 abbrev pub IsMemo : Table → List (Question × Ref) → Type 0
-IsMemo t entries = (q : Question) (r : Ref) → lookup (eq-value.it q) entries ≡ Some r → IsAnswer t q.op q.f q.g r
+IsMemo t entries = (q : Question) (r : Ref) → lookup (eq-value.it q) entries ≡ Some r → IsAnswer t q r
 
 pub record IsOps (a : Inside) : Type 0 where
   pub reduced : IsReduced (table a.pool.arena)

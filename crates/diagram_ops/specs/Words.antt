@@ -1,12 +1,14 @@
 -- The operations on sets of words, and what a call that makes nodes leaves.
-use Rattle.std.specs.Prelude.{◌≡◌, ℕ, ◌≤◌, Bool, true, false, not, ◌&&◌, ◌||◌, if◌then◌else◌, None}
+use Rattle.std.specs.Prelude.{◌≡◌, ℕ, ◌≤◌, ◌==◌, Bool, true, false, not, ◌&&◌, ◌||◌, if◌then◌else◌, None, Some}
+use Rattle.std.specs.FinMap as map
 use Rattle.diagram_arena.specs.declared.nodes.NodeId.{NodeId}
+use Rattle.diagram_arena.specs.declared.nodes.Node.{Node as Stored}
 use Rattle.diagram_arena.specs.declared.nodes.Ref.{Ref}
 use Rattle.diagram_arena.specs.declared.nodes.Ref.TheVariants.{Node}
 use Rattle.diagram_arena.specs.Table.{Word, Words, Table, has, IsLive, depth, IsReduced}
-use Rattle.diagram_arena.specs.Part.{IsPartOf}
+use Rattle.diagram_arena.specs.Part.{with_bit, IsPartOf}
 use Rattle.diagram_arena.specs.Reach.{Bits, ReachesOnly}
-use Rattle.diagram_arena.specs.Arena.{table, KeepsNodes, NewAreUntagged, Grows}
+use Rattle.diagram_arena.specs.Arena.{ArenaState, table, KeepsNodes, NewAreUntagged, Grows}
 use Rattle.node_reclaim.specs.Pool.{PoolState}
 
 -- the words of a ref of a pool
@@ -38,6 +40,39 @@ Leaves V W = (w : Word) × (V w ≡ true) × (W w ≡ false)
 abbrev pub words_with : ℕ → Bool → Words
 words_with b v = λ w. if v then w b else not (w b)
 
+-- the words of W whose bit is true, and those of V whose bit is false
+abbrev pub joined : ℕ → Words → Words → Words
+joined b V W = λ w. if w b then W w else V w
+
+-- the words that are in V once the bit is set to this value: Bryant's restriction (1986)
+abbrev pub restricted : Words → ℕ → Bool → Words
+restricted V b v = λ w. V (with_bit w b v)
+
+-- the bits of both sets; all bits of a set but one
+abbrev pub common : Bits → Bits → Bits
+common A B = λ b. A b && B b
+
+abbrev pub all_but : ℕ → Bits → Bits
+all_but a A = λ b. A b && not (b == a)
+
+-- two words have the same values at these bits
+abbrev pub Agree : Bits → Word → Word → Type 0
+Agree bits w u = (b : ℕ) → bits b ≡ true → w b ≡ u b
+
+-- P has just the words that agree at these bits with a word of V: the other bits are quantified existentially, as where
+-- domains are narrowed (Hawkins, Lagoon and Stuckey, JAIR 2005)
+pub record IsProjection (bits : Bits) (V P : Words) : Type 0 where
+  pub sound : (w : Word) → P w ≡ true → (u : Word) × (V u ≡ true) × Agree bits w u
+  pub whole : (w u : Word) → V u ≡ true → Agree bits w u → P w ≡ true
+
+-- W is a part of the projection of a part of V
+pub record IsPartOfProjection (bits : Bits) (W V : Words) : Type 0 where
+  pub part : Words
+  pub projection : Words
+  pub of_part : IsPartOf part V
+  pub projects : IsProjection bits part projection
+  pub within : IsPartOf W projection
+
 -- r is a ref of the table, and its words are those of V
 pub record Denotes (t : Table) (V : Words) (r : Ref) : Type 0 where
   pub live : IsLive t r
@@ -47,11 +82,17 @@ pub record Denotes (t : Table) (V : Words) (r : Ref) : Type 0 where
 abbrev pub IsAsDeep : Table → Ref → Ref → Ref → Type 0
 IsAsDeep t f g r = (b : ℕ) → b ≤ depth t f → b ≤ depth t g → b ≤ depth t r
 
--- every node that was there stands with its tag and its pins, every ref means what it meant, and new nodes have tag 0
+-- each node that was not there before has no mark
+abbrev pub NewAreUnmarked : ArenaState → ArenaState → Type 0
+NewAreUnmarked old new = (i : NodeId) (n : Stored) → map.get old.nodes i ≡ None → map.get new.nodes i ≡ Some n → n.mark ≡ false
+
+-- every node that was there stands with its mark, its tag and its pins, every ref means what it meant, and new nodes
+-- have no mark and tag 0
 pub record Stays (old new : PoolState) : Type 0 where
   pub reduced : IsReduced (table new.arena)
   pub grows : Grows (table old.arena) (table new.arena)
   pub keeps : KeepsNodes old.arena new.arena
+  pub unmarked : NewAreUnmarked old.arena new.arena
   pub untagged : NewAreUntagged old.arena new.arena
   pub limit : new.arena.limit ≡ old.arena.limit
   pub counts : new.counts ≡ old.counts
@@ -59,6 +100,10 @@ pub record Stays (old new : PoolState) : Type 0 where
 -- each new node is a part of V
 abbrev pub NewArePartsOf : Table → Table → Words → Type 0
 NewArePartsOf old new V = (i : NodeId) → old i ≡ None → IsLive new (Node i) → IsPartOf (has new (Node i)) V
+
+-- each new node is a part of the projection of a part of V
+abbrev pub NewArePartsOfProjections : Table → Table → Bits → Words → Type 0
+NewArePartsOfProjections old new bits V = (i : NodeId) → old i ≡ None → IsLive new (Node i) → IsPartOfProjection bits (has new (Node i)) V
 
 -- each new node reaches only these bits
 abbrev pub NewReachOnly : Table → Table → Bits → Type 0

@@ -2,8 +2,9 @@
 #![tactic(auto)]
 
 mod operations;
+mod projection;
 mod question;
-mod shortcut;
+mod settled;
 mod split;
 
 pub use operations::Ops;

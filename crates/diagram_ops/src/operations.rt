@@ -1,19 +1,18 @@
 //! Operations on the sets of words that refs denote (Bryant, IEEE Transactions on Computers, 1986), by
 //! recursion over nodes.
-ghost use Rattle.std.specs.Prelude.{◌≡◌, ◌-◌, ◌^◌, ◌<◌, ◌≤◌, ◌↔◌, true, min, [], ◌∷◌, IsErr, IfOk, OnOk, OnErr, IfSome, IfNone, IsTrue, MatchBool};
+ghost use Rattle.std.specs.Prelude.{◌≡◌, ◌-◌, ◌^◌, ◌<◌, ◌≤◌, ◌↔◌, true, [], ◌∷◌, IsErr, IfOk, OnOk, OnErr, IfSome, IfNone, IsTrue, MatchBool};
 ghost use Rattle.std.specs.FinMap as map;
 ghost use Rattle.diagram_arena.specs.declared.nodes.Node.{Node};
-ghost use Rattle.diagram_arena.specs.declared.hash_consing.TheConstants.{MAX_LIMIT};
 ghost use Rattle.diagram_arena.specs.Table.{IsLive, IsReduced, depth};
 ghost use Rattle.diagram_arena.specs.Reach.{Bits, ReachesOnly};
-ghost use Rattle.diagram_arena.specs.Arena.{table, CanMake, IsNeeded, IsMade, KeepsNodes, NewAreUntagged, Grows, Joins, ChangesNode};
+ghost use Rattle.diagram_arena.specs.Arena.{most_nodes, table, CanMake, IsNeeded, IsMade, Joins, ChangesNode};
 ghost use Rattle.node_reclaim.specs.Pool.{pins_of, Pins, Unpins, IsPinned};
-ghost use Rattle.diagram_ops.specs.Words.{words_of, both, either, without, complement, Lies, Leaves, words_with, Denotes, IsAsDeep, Stays, NewArePartsOf, NewReachOnly};
-ghost use Rattle.diagram_ops.specs.Steps.{HasNode, IsAnswer, IsSplit, Applied};
+ghost use Rattle.diagram_ops.specs.Words.{words_of, both, either, without, complement, Lies, Leaves, words_with, joined, restricted, all_but, Denotes, IsAsDeep, Stays, NewArePartsOf, NewReachOnly};
+ghost use Rattle.diagram_ops.specs.Steps.{first, AreLive, HasStep, IsAnswer, IsStep, Answered};
 
 use crate::question::{Op, Question};
-use crate::shortcut::shortcut;
-use crate::split::{first_bit, split};
+use crate::settled::settled;
+use crate::split::{first_bit, sides};
 use diagram_arena::{NodeId, Ref, Stop};
 use node_reclaim::{Pin, Pool};
 use std::alloc::{AllocError, Global};
@@ -27,6 +26,7 @@ use std::marker::Model;
 /// call had made by then may stay. No call frees a node.
 #[derive(Drop)]
 pub struct Ops {
+    alloc: Global,
     pool: Pool,
     memo: HashMap<Question, Ref>,
 }
@@ -50,7 +50,7 @@ impl Ops {
     /// number of results to keep in mind, 1 to 1,000,000. It has no effect yet: all are kept.
     pub fn new(alloc: Global, limit: u32, cache: usize) -> Result<Ops, AllocError>
         requires some { 0 < limit }
-        requires most { limit ≤ MAX_LIMIT }
+        requires most { limit ≤ most_nodes }
         requires cache_some { 0 < cache }
         requires cache_most { cache ≤ 1000000 }
         ensures empty { IfOk result (λ o. o.arena ≡ record { nodes = map.empty; limit = limit }) }
@@ -58,6 +58,7 @@ impl Ops {
     {
         let _ = cache;
         Ok(Ops {
+            alloc,
             pool: Pool::new(alloc, limit),
             memo: HashMap::new(alloc),
         })
@@ -100,6 +101,7 @@ impl Ops {
         ensures stays { Stays self.old self.new }
         ensures full { result ≡ Err Stop.Full → map.len self.new.arena.nodes ≡ self.new.arena.limit }
         ensures parts { NewArePartsOf (table self.old.arena) (table self.new.arena) (words_with bit value) }
+        ensures asks { (bits : Bits) → bits bit ≡ true → IfOk result (ReachesOnly (table self.new.arena) bits) }
         ensures reach { (bits : Bits) → bits bit ≡ true → NewReachOnly (table self.old.arena) (table self.new.arena) bits }
     {
         if value {
@@ -117,9 +119,10 @@ impl Ops {
         ensures stays { Stays self.old self.new }
         ensures full { result ≡ Err Stop.Full → map.len self.new.arena.nodes ≡ self.new.arena.limit }
         ensures parts { NewArePartsOf (table self.old.arena) (table self.new.arena) (complement (words_of self.old f)) }
+        ensures asks { (bits : Bits) → ReachesOnly (table self.old.arena) bits f → IfOk result (ReachesOnly (table self.new.arena) bits) }
         ensures reach { (bits : Bits) → ReachesOnly (table self.old.arena) bits f → NewReachOnly (table self.old.arena) (table self.new.arena) bits }
     {
-        self.apply(Op::Diff, Ref::One, f)
+        self.answer(Question::Combine(Op::Diff, Ref::One, f))
     }
 
     /// The words that are in `f` and in `g`, which must be live.
@@ -131,9 +134,10 @@ impl Ops {
         ensures stays { Stays self.old self.new }
         ensures full { result ≡ Err Stop.Full → map.len self.new.arena.nodes ≡ self.new.arena.limit }
         ensures parts { NewArePartsOf (table self.old.arena) (table self.new.arena) (both (words_of self.old f) (words_of self.old g)) }
+        ensures asks { (bits : Bits) → ReachesOnly (table self.old.arena) bits f → ReachesOnly (table self.old.arena) bits g → IfOk result (ReachesOnly (table self.new.arena) bits) }
         ensures reach { (bits : Bits) → ReachesOnly (table self.old.arena) bits f → ReachesOnly (table self.old.arena) bits g → NewReachOnly (table self.old.arena) (table self.new.arena) bits }
     {
-        self.apply(Op::And, f, g)
+        self.answer(Question::Combine(Op::And, f, g))
     }
 
     /// The words that are in `f` or in `g`, which must be live.
@@ -145,9 +149,10 @@ impl Ops {
         ensures stays { Stays self.old self.new }
         ensures full { result ≡ Err Stop.Full → map.len self.new.arena.nodes ≡ self.new.arena.limit }
         ensures parts { NewArePartsOf (table self.old.arena) (table self.new.arena) (either (words_of self.old f) (words_of self.old g)) }
+        ensures asks { (bits : Bits) → ReachesOnly (table self.old.arena) bits f → ReachesOnly (table self.old.arena) bits g → IfOk result (ReachesOnly (table self.new.arena) bits) }
         ensures reach { (bits : Bits) → ReachesOnly (table self.old.arena) bits f → ReachesOnly (table self.old.arena) bits g → NewReachOnly (table self.old.arena) (table self.new.arena) bits }
     {
-        self.apply(Op::Or, f, g)
+        self.answer(Question::Combine(Op::Or, f, g))
     }
 
     /// The words that are in `f` and not in `g`, which must be live.
@@ -159,9 +164,25 @@ impl Ops {
         ensures stays { Stays self.old self.new }
         ensures full { result ≡ Err Stop.Full → map.len self.new.arena.nodes ≡ self.new.arena.limit }
         ensures parts { NewArePartsOf (table self.old.arena) (table self.new.arena) (without (words_of self.old f) (words_of self.old g)) }
+        ensures asks { (bits : Bits) → ReachesOnly (table self.old.arena) bits f → ReachesOnly (table self.old.arena) bits g → IfOk result (ReachesOnly (table self.new.arena) bits) }
         ensures reach { (bits : Bits) → ReachesOnly (table self.old.arena) bits f → ReachesOnly (table self.old.arena) bits g → NewReachOnly (table self.old.arena) (table self.new.arena) bits }
     {
-        self.apply(Op::Diff, f, g)
+        self.answer(Question::Combine(Op::Diff, f, g))
+    }
+
+    /// The words that are in `f` once their `bit` is set to `value` (Bryant's restriction): of the words of
+    /// `f` with this value, those with the other one too. `f` must be live, and need not ask the bit.
+    pub fn restrict(&mut self, f: Ref, bit: u32, value: bool) -> Result<Ref, Stop>
+        requires { IsLive (table self.old.arena) f }
+        ensures words { IfOk result (Denotes (table self.new.arena) (restricted (words_of self.old f) bit value)) }
+        ensures deep { IfOk result (λ r. depth (table self.old.arena) f ≤ depth (table self.new.arena) r) }
+        ensures stays { Stays self.old self.new }
+        ensures full { result ≡ Err Stop.Full → map.len self.new.arena.nodes ≡ self.new.arena.limit }
+        ensures parts { NewArePartsOf (table self.old.arena) (table self.new.arena) (restricted (words_of self.old f) bit value) }
+        ensures asks { (bits : Bits) → ReachesOnly (table self.old.arena) bits f → IfOk result (ReachesOnly (table self.new.arena) (all_but bit bits)) }
+        ensures reach { (bits : Bits) → ReachesOnly (table self.old.arena) bits f → NewReachOnly (table self.old.arena) (table self.new.arena) (all_but bit bits) }
+    {
+        self.answer(Question::Restrict(f, bit, value))
     }
 
     /// Whether every word of `f` is in `g`, which must be live. The difference of the two is made to tell.
@@ -182,7 +203,10 @@ impl Ops {
     pub fn pool(&self) -> &Pool
         ensures pool { result.now ≡ self.now }
         ensures reduced { IsReduced (table self.now.arena) }
+        ensures pinned_live { (i : NodeId) → 0 < pins_of self.now i → IsLive (table self.now.arena) (Ref.Node i) }
     {
+        // What is known of the pins.
+        let _ = self.pool.arena();
         &self.pool
     }
 
@@ -190,7 +214,11 @@ impl Ops {
     pub fn into_pool(self) -> Pool
         ensures { result ≡ self }
     {
-        let Ops { pool, memo: _ } = self;
+        let Ops {
+            alloc: _,
+            pool,
+            memo: _,
+        } = self;
         pool
     }
 
@@ -209,83 +237,87 @@ impl Ops {
         ensures joins { IfOk result (Joins (table self.old.arena) (table self.new.arena) bit lo hi) }
         ensures only_new { (i : NodeId) → table self.old.arena i ≡ None → IsLive (table self.new.arena) (Ref.Node i) → result ≡ Ok (Ref.Node i) }
         ensures stays { Stays self.old self.new }
+        ensures parts { NewArePartsOf (table self.old.arena) (table self.new.arena) (joined bit (words_of self.old lo) (words_of self.old hi)) }
+        ensures asks { (bits : Bits) → bits bit ≡ true → ReachesOnly (table self.old.arena) bits lo → ReachesOnly (table self.old.arena) bits hi → IfOk result (ReachesOnly (table self.new.arena) bits) }
         ensures reach { (bits : Bits) → bits bit ≡ true → ReachesOnly (table self.old.arena) bits lo → ReachesOnly (table self.old.arena) bits hi → NewReachOnly (table self.old.arena) (table self.new.arena) bits }
     {
         self.pool.make(bit, lo, hi)
     }
 
-    /// The result, if no node need be looked at or the memo has it.
-    fn known(&self, op: Op, f: Ref, g: Ref) -> Option<Ref>
-        requires f_live { IsLive (table self.now.arena) f }
-        requires g_live { IsLive (table self.now.arena) g }
-        ensures found { IfSome result (IsAnswer (table self.now.arena) op f g) }
-        ensures node { IfNone result (HasNode f g) }
+    /// The allocator of the tables.
+    pub(crate) fn allocator(&self) -> Global {
+        self.alloc
+    }
+
+    /// The answer, if no step is needed or the memo has it.
+    fn known(&self, question: Question) -> Option<Ref>
+        requires { AreLive (table self.now.arena) question }
+        ensures found { IfSome result (IsAnswer (table self.now.arena) question) }
+        ensures step { IfNone result (HasStep (table self.now.arena) question) }
         ensures reduced { IsReduced (table self.now.arena) }
     {
         // What is known of the nodes.
         let _ = self.pool();
-        match shortcut(op, f, g) {
+        match settled(self.pool.arena(), question) {
             Some(r) => Some(r),
-            None => self.recall(op, f, g),
+            None => self.recall(question),
         }
     }
 
-    /// The result, if the memo has it.
-    fn recall(&self, op: Op, f: Ref, g: Ref) -> Option<Ref>
-        ensures found { IfSome result (IsAnswer (table self.now.arena) op f g) }
+    /// The answer, if the memo has it.
+    fn recall(&self, question: Question) -> Option<Ref>
+        ensures found { IfSome result (IsAnswer (table self.now.arena) question) }
         ensures reduced { IsReduced (table self.now.arena) }
     {
-        self.memo.get(&Question { op, f, g }).copied()
+        self.memo.get(&question).copied()
     }
 
-    /// Keeps a result for later questions.
-    fn remember(&mut self, op: Op, f: Ref, g: Ref, r: Ref) -> Result<(), AllocError>
-        requires { IsAnswer (table self.old.arena) op f g r }
+    /// Keeps an answer for later.
+    fn remember(&mut self, question: Question, r: Ref) -> Result<(), AllocError>
+        requires { IsAnswer (table self.old.arena) question r }
         ensures { self.new ≡ self.old }
     {
-        self.memo.insert(Question { op, f, g }, r)?;
+        self.memo.insert(question, r)?;
         Ok(())
     }
 
-    /// The operation, by recursion over the nodes of both refs. With the memo each pair of nodes is
-    /// taken once.
-    fn apply(&mut self, op: Op, f: Ref, g: Ref) -> Result<Ref, Stop>
-        requires f_live { IsLive (table self.old.arena) f }
-        requires g_live { IsLive (table self.old.arena) g }
-        ensures { Applied self.old self.new op f g result }
+    /// The answer, by recursion over the nodes of the question's refs. The memo is there so that no
+    /// question is answered twice.
+    fn answer(&mut self, question: Question) -> Result<Ref, Stop>
+        requires { AreLive (table self.old.arena) question }
+        ensures { Answered self.old self.new question result }
     {
-        match self.known(op, f, g) {
+        match self.known(question) {
             Some(r) => Ok(r),
             None => {
-                let bit = self.first_bit(f, g);
-                let (f_lo, f_hi) = self.split(f, bit);
-                let (g_lo, g_hi) = self.split(g, bit);
-                let lo = self.apply(op, f_lo, g_lo)?;
-                let hi = self.apply(op, f_hi, g_hi)?;
+                let bit = self.first_bit(question);
+                let (on_false, on_true) = self.sides(question, bit);
+                let lo = self.answer(on_false)?;
+                let hi = self.answer(on_true)?;
                 let r = self.node(bit, lo, hi)?;
-                self.remember(op, f, g, r)?;
+                self.remember(question, r)?;
                 Ok(r)
             }
         }
     }
 
-    /// The first bit that `f` or `g` asks.
-    fn first_bit(&self, f: Ref, g: Ref) -> u32
-        requires f_live { IsLive (table self.now.arena) f }
-        requires g_live { IsLive (table self.now.arena) g }
-        requires node { HasNode f g }
-        ensures { result ≡ min (depth (table self.now.arena) f) (depth (table self.now.arena) g) }
+    /// The first bit that a question asks.
+    fn first_bit(&self, question: Question) -> u32
+        requires live { AreLive (table self.now.arena) question }
+        requires step { HasStep (table self.now.arena) question }
+        ensures { result ≡ first (table self.now.arena) question }
     {
-        first_bit(self.pool.arena(), f, g)
+        first_bit(self.pool.arena(), question)
     }
 
-    /// What is left of `r` once `bit` is false, and once it is true.
-    fn split(&self, r: Ref, bit: u32) -> (Ref, Ref)
-        requires live { IsLive (table self.now.arena) r }
-        requires above { bit ≤ depth (table self.now.arena) r }
-        ensures { IsSplit (table self.now.arena) r bit result.0 result.1 }
+    /// What is left of a question once its first bit is false, and once it is true.
+    fn sides(&self, question: Question, bit: u32) -> (Question, Question)
+        requires live { AreLive (table self.now.arena) question }
+        requires step { HasStep (table self.now.arena) question }
+        requires at { bit ≡ first (table self.now.arena) question }
+        ensures { IsStep (table self.now.arena) question bit result.0 result.1 }
     {
-        split(self.pool.arena(), r, bit)
+        sides(self.pool.arena(), question, bit)
     }
 }
 

@@ -1,4 +1,4 @@
-//! The operations that share one recursion, and what a memo is asked.
+//! Operations with their arguments: what the recursion answers, and the memo keeps.
 
 use diagram_arena::Ref;
 
@@ -10,10 +10,11 @@ pub(crate) enum Op {
     Diff,
 }
 
-/// What is asked: an operation and the refs that it takes.
+/// An operation with its arguments: the key of the memo.
 #[derive(Clone, Copy, PartialEq, Eq, Hash, Debug)]
-pub(crate) struct Question {
-    pub op: Op,
-    pub f: Ref,
-    pub g: Ref,
+pub(crate) enum Question {
+    /// An operation on two sets.
+    Combine(Op, Ref, Ref),
+    /// What is left of a set once a bit has this value.
+    Restrict(Ref, u32, bool),
 }

@@ -1,38 +1,164 @@
+ghost use Rattle.std.specs.Prelude.{◌≤◌, IfOk};
+ghost use Rattle.std.specs.List.Sorted.{IsStrictlyIncreasing};
+ghost use Rattle.diagram_arena.specs.Table.{Table, IsLive, depth};
+ghost use Rattle.diagram_arena.specs.Arena.{table};
+ghost use Rattle.diagram_ops.specs.Words.{Stays};
+
 use super::Ops;
-use diagram_arena::Ref;
+use diagram_arena::{Ref, Stop};
 use std::test::Fail;
 
-/// The words whose bits 0 and 1 are both true: bit 0 false gives none, true gives those of bit 1.
-#[test]
+// Whether each of the words 000, 001, 010, 011, 100, 101, 110 and 111 is in a set. A word gives bit 0 first.
+type Listed = [bool; 8];
+
+const F: bool = false;
+
+const T: bool = true;
+
+/// 011, 101 and 110.
+const TWO: Listed = [F, F, F, T, F, T, T, F];
+
+/// The four words that begin with 1.
+const FIRST: Listed = [F, F, F, F, T, T, T, T];
+
 #[tactic(auto, using(diagram_arena::proofs::Meaning::terminals))]
-fn meets_two_literals(rt: HostRuntime) -> Result<(), Fail> {
-    let mut ops = Ops::new(rt.alloc(), 3, 1)?;
-    let first = ops.literal(0, true)?;
-    let second = ops.literal(1, true)?;
-    let by_hand = ops.node(0, Ref::Zero, second)?;
-    assert_eq!(rt; ops.and(first, second), Ok(by_hand));
-    Ok(())
+fn leaf(has: bool) -> Ref
+    ensures live { (t : Table) → IsLive t result }
+    ensures deep { (t : Table) → 3 ≤ depth t result }
+{
+    if has { Ref::One } else { Ref::Zero }
 }
 
-/// A literal and its complement: together they hold every word, and neither holds a word of the other.
+fn over_two(ops: &mut Ops, words: [bool; 2]) -> Result<Ref, Stop>
+    ensures live { IfOk result (IsLive (table ops.new.arena)) }
+    ensures deep { IfOk result (λ r. 2 ≤ depth (table ops.new.arena) r) }
+    ensures stays { Stays ops.old ops.new }
+{
+    let [a, b] = words;
+    ops.node(2, leaf(a), leaf(b))
+}
+
+fn over_one(ops: &mut Ops, words: [bool; 4]) -> Result<Ref, Stop>
+    ensures live { IfOk result (IsLive (table ops.new.arena)) }
+    ensures deep { IfOk result (λ r. 1 ≤ depth (table ops.new.arena) r) }
+    ensures stays { Stays ops.old ops.new }
+{
+    let [a, b, c, d] = words;
+    let lo = over_two(ops, [a, b])?;
+    let hi = over_two(ops, [c, d])?;
+    ops.node(1, lo, hi)
+}
+
+/// The ref of a list of words, built node by node.
+fn built(ops: &mut Ops, words: Listed) -> Result<Ref, Stop>
+    ensures live { IfOk result (IsLive (table ops.new.arena)) }
+    ensures stays { Stays ops.old ops.new }
+{
+    let [a, b, c, d, e, f, g, h] = words;
+    let lo = over_one(ops, [a, b, c, d])?;
+    let hi = over_one(ops, [e, f, g, h])?;
+    ops.node(0, lo, hi)
+}
+
+/// A call whose answer is a set.
+#[derive(Clone, Copy, Debug)]
+enum Call {
+    Literal(u32, bool),
+    Not,
+    And,
+    Or,
+    Diff,
+    Restrict(u32, bool),
+}
+
+fn answer(ops: &mut Ops, call: Call, f: Ref, g: Ref) -> Result<Ref, Stop>
+    requires f_live { IsLive (table ops.old.arena) f }
+    requires g_live { IsLive (table ops.old.arena) g }
+    ensures { Stays ops.old ops.new }
+{
+    match call {
+        Call::Literal(bit, value) => ops.literal(bit, value),
+        Call::Not => ops.not(f),
+        Call::And => ops.and(f, g),
+        Call::Or => ops.or(f, g),
+        Call::Diff => ops.diff(f, g),
+        Call::Restrict(bit, value) => ops.restrict(f, bit, value),
+    }
+}
+
+/// What each call answers for 011, 101, 110 and the words that begin with 1, worked out on lists.
+const CALLS: [(Call, Listed); 11] = [
+    (Call::Literal(0, true), FIRST),
+    (Call::Literal(2, false), [T, F, T, F, T, F, T, F]),
+    (Call::Not, [T, T, T, F, T, F, F, T]),
+    (Call::And, [F, F, F, F, F, T, T, F]),
+    (Call::Or, [F, F, F, T, T, T, T, T]),
+    (Call::Diff, [F, F, F, T, F, F, F, F]),
+    (Call::Restrict(0, false), [F, F, F, T, F, F, F, T]),
+    (Call::Restrict(1, true), [F, T, F, T, T, F, T, F]),
+    (Call::Restrict(1, false), [F, F, F, F, F, T, F, T]),
+    (Call::Restrict(2, true), [F, F, T, T, T, T, F, F]),
+    (Call::Restrict(3, true), TWO),
+];
+
 #[test]
-fn complements_a_literal(rt: HostRuntime) -> Result<(), Fail> {
-    let mut ops = Ops::new(rt.alloc(), 2, 1)?;
-    let on = ops.literal(7, true)?;
-    let off = ops.not(on)?;
-    assert_eq!(rt; ops.or(on, off), Ok(Ref::One));
-    assert_eq!(rt; ops.diff(on, off), Ok(on));
+fn answers_as_lists_of_words(rt: HostRuntime) -> Result<(), Fail> {
+    for (call, words) in CALLS {
+        let mut ops = Ops::new(rt.alloc(), 30, 1)?;
+        let two = built(&mut ops, TWO)?;
+        let first = built(&mut ops, FIRST)?;
+        let result = answer(&mut ops, call, two, first)?;
+        assert_eq!(rt; built(&mut ops, words), Ok(result), "{call:?}");
+    }
     Ok(())
 }
 
-/// A literal holds a word that is not in its complement, and a pin of it is spent.
+/// Whether the projection of 011, 101 and 110 to these bits is this list.
+fn projects_to(rt: &HostRuntime, keep: &[u32], words: Listed) -> Result<bool, Fail>
+    requires { IsStrictlyIncreasing keep.now }
+{
+    let mut ops = Ops::new(rt.alloc(), 30, 1)?;
+    let two = built(&mut ops, TWO)?;
+    let result = ops.project(two, keep)?;
+    Ok(built(&mut ops, words)? == result)
+}
+
+#[test]
+fn projects_as_lists_of_words(rt: HostRuntime) -> Result<(), Fail> {
+    assert!(rt; projects_to(&rt, &[], [T, T, T, T, T, T, T, T])?);
+    assert!(rt; projects_to(&rt, &[2], [T, T, T, T, T, T, T, T])?);
+    assert!(rt; projects_to(&rt, &[0, 1], [F, F, T, T, T, T, T, T])?);
+    assert!(rt; projects_to(&rt, &[0, 2], [F, T, F, T, T, T, T, T])?);
+    assert!(rt; projects_to(&rt, &[1, 2], [F, T, T, T, F, T, T, T])?);
+    assert!(rt; projects_to(&rt, &[0, 1, 2, 9], TWO)?);
+    Ok(())
+}
+
 #[test]
 fn tells_what_lies_inside(rt: HostRuntime) -> Result<(), Fail> {
+    let mut ops = Ops::new(rt.alloc(), 30, 1)?;
+    let two = built(&mut ops, TWO)?;
+    let first = built(&mut ops, FIRST)?;
+    let both = ops.and(two, first)?;
+    assert_eq!(rt; ops.inside(both, two), Ok(true));
+    assert_eq!(rt; ops.inside(two, first), Ok(false));
+    Ok(())
+}
+
+/// A tag is set on one node alone, and a pin of it is spent.
+#[test]
+fn tags_and_pins_a_node(rt: HostRuntime) -> Result<(), Fail> {
     let mut ops = Ops::new(rt.alloc(), 2, 1)?;
     let on = ops.literal(7, true)?;
     let pin = ops.pin(on).expect(&rt, "a pin");
     ops.unpin(pin);
-    assert_eq!(rt; ops.inside(on, Ref::One), Ok(true));
-    assert_eq!(rt; ops.inside(Ref::One, on), Ok(false));
+    match on {
+        Ref::Node(id) => {
+            ops.set_tag(id, 5);
+            assert_eq!(rt; ops.pool().arena().tag(id), 5);
+        }
+        Ref::Zero => assert!(rt; false),
+        Ref::One => assert!(rt; false),
+    }
     Ok(())
 }

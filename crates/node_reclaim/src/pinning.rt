@@ -3,9 +3,8 @@ ghost use Rattle.std.specs.Prelude.{◌≡◌, ◌-◌, ◌^◌, ◌<◌, ◌≤
 ghost use Rattle.std.specs.FinMap as map;
 ghost use Rattle.diagram_arena.specs.declared.nodes.NodeId.{NodeId};
 ghost use Rattle.diagram_arena.specs.declared.nodes.Node.{Node};
-ghost use Rattle.diagram_arena.specs.declared.hash_consing.TheConstants.{MAX_LIMIT};
 ghost use Rattle.diagram_arena.specs.Table.{IsLive, IsReduced};
-ghost use Rattle.diagram_arena.specs.Arena.{table, CanMake, IsNeeded, IsMade, KeepsNodes, NewAreUntagged, Grows, Joins, ChangesNode};
+ghost use Rattle.diagram_arena.specs.Arena.{most_nodes, table, CanMake, IsNeeded, IsMade, KeepsNodes, NewAreUntagged, Grows, Joins, ChangesNode};
 ghost use Rattle.node_reclaim.specs.Pool.{pins_of, times, Pins, Unpins, IsPinned, pinned_refs};
 
 use diagram_arena::{Arena, NodeId, Ref, Stop};
@@ -69,7 +68,7 @@ impl Pool {
     /// A pool with no nodes, that will hold at most `limit` nodes: 1 to `MAX_LIMIT`. It takes no memory.
     pub fn new(alloc: Global, limit: u32) -> Pool
         requires some { 0 < limit }
-        requires most { limit ≤ MAX_LIMIT }
+        requires most { limit ≤ most_nodes }
         ensures empty { result.arena ≡ record { nodes = map.empty; limit = limit } }
         ensures unpinned { result.counts ≡ map.empty }
     {

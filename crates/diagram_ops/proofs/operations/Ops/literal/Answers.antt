@@ -2,7 +2,7 @@ use Rattle.std.proofs.Common.{sym, subst, Bool}
 use Rattle.std.specs.Prelude.{IfOk}
 use Rattle.diagram_arena.specs.Arena.{table}
 use Rattle.diagram_ops.specs.Words.{words_with, Denotes}
-use Rattle.diagram_ops.proofs.Results.{can_literal_true, can_literal_false, literal_true, literal_false, result_part, literal_reach}
+use Rattle.diagram_ops.proofs.Results.{can_literal_true, can_literal_false, literal_true, literal_false, result_part, literal_asks, literal_reach}
 use Rattle.diagram_ops.proofs.operations.Ops.literal.Goals as goal
 
 pub node-requires : goal.node-requires
@@ -36,3 +36,11 @@ returns-else-value-clause-parts c =
 pub returns-else-value-clause-reach : goal.returns-else-value-clause-reach
 returns-else-value-clause-reach c bits on =
     literal_reach _ _ c.node-else-value.ensures.stays.reduced c.args.bit c.args.value (returns-else-value-clause-parts c) bits on
+
+pub returns-then-value-clause-asks : goal.returns-then-value-clause-asks
+returns-then-value-clause-asks c bits on =
+    literal_asks _ c.node.ensures.stays.reduced c.args.bit c.args.value c.node.result (returns-then-value-clause-words c) bits on
+
+pub returns-else-value-clause-asks : goal.returns-else-value-clause-asks
+returns-else-value-clause-asks c bits on =
+    literal_asks _ c.node-else-value.ensures.stays.reduced c.args.bit c.args.value c.node-else-value.result (returns-else-value-clause-words c) bits on

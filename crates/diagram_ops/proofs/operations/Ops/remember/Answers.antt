@@ -13,6 +13,6 @@ invariant_of-self c = record {
 pub invariant_of-self-2 : goal.invariant_of-self-2
 invariant_of-self-2 c = record {
   reduced = c.self.invariant.reduced;
-  memo = memo_puts _ c.self.inside.memo.entries c.insert.new.self.entries (record { op = c.args.op; f = c.args.f; g = c.args.g }) c.args.r c.self.invariant.memo
+  memo = memo_puts _ c.self.inside.memo.entries c.insert.new.self.entries c.args.question c.args.r c.self.invariant.memo
       (rw c.self.view_is c.requires) (λ q. c.in_ok-insert.ensures.updates.0 q);
 }

@@ -1,0 +1,11 @@
+pub mod Bits
+pub mod Over
+pub mod Stepping
+pub mod Tell
+pub mod Passing
+pub mod Visiting
+pub mod Residual
+pub mod Counts
+pub mod Leveling
+pub mod Firsts
+pub mod Built
