@@ -1,9 +1,9 @@
 -- Lists as sets.
-use Rattle.std.proofs.Common.{◌≡◌, ℕ, zero, suc, ◌+◌, ◌<◌, eqb, Bool, true, false, ◌&&◌, ◌||◌, List, [], ◌∷◌, ◌++◌, length, get_or, refl, sym, ap, ◌∙◌, subst, inl, inr, arith}
+use Rattle.std.proofs.Common.{◌≡◌, ℕ, zero, suc, ◌+◌, ◌<◌, eqb, Bool, true, false, not, ◌&&◌, ◌||◌, List, [], ◌∷◌, ◌++◌, length, get_or, refl, sym, ap, ◌∙◌, subst, inl, inr, arith}
 use Rattle.std.specs.List.{filter}
 use Rattle.std.proofs.lemmas.Bool.{eq-eqb, ne_eqb, eqb-true, cases_Bool, cases_eq, or_left, or_right, or_cases, or_from, cond-true, cond-false}
 use Rattle.std.proofs.lemmas.List.{length_push, get_or_push, get_or_append_left}
-use Rattle.plain_steps.specs.Sets.{has, IsTable}
+use Rattle.plain_steps.specs.Sets.{has, united, IsTable}
 
 pub has_at : (xs : List ℕ) (k x : ℕ) → k < length xs → x ≡ get_or xs k 0 → has xs x ≡ true
 has_at [] k x lt same = absurd (omega arith)
@@ -55,6 +55,16 @@ has-append (z ∷ zs) ys x = elim (cases_eq x z) [
   | inl same ↦ let is : eqb x z ≡ true = eq-eqb x z same in rw is refl
   | inr apart ↦ let is : eqb x z ≡ false = ne_eqb x z apart in rw is (has-append zs ys x)
 ]
+
+pub has-united : (a b : List ℕ) (x : ℕ) → has (united a b) x ≡ (has a x || has b x)
+has-united a b x =
+    has-append a (filter (λ y. not (has a y)) b) x
+    ∙ (ap (λ t. has a x || t) (has-filter (λ y. not (has a y)) b x) ∙ either_way (has a x) (has b x))
+  where
+    either_way : (s t : Bool) → (s || (t && not s)) ≡ (s || t)
+    either_way true t = refl
+    either_way false true = refl
+    either_way false false = refl
 
 -- one more set of a table
 pub table_none : (f : ℕ → List ℕ) → IsTable f 0 []

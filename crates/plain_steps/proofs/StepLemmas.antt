@@ -4,7 +4,7 @@ use Rattle.std.proofs.lemmas.Bool.{cases_Bool, cases_eq, cases_lt, cond-true, co
 use Rattle.std.proofs.Common.{set}
 use Rattle.std.specs.Prelude.{MatchBool}
 use Rattle.std.proofs.lemmas.List.{length-set, get_or_past, get_or-set_other, get_or-set_same}
-use Rattle.plain_steps.proofs.SetLemmas.{has_at, has_place, has-append, has-filter}
+use Rattle.plain_steps.proofs.SetLemmas.{has_at, has_place, has-append, has-filter, has-united}
 use Rattle.std.proofs.Math.Path.{fun_ext}
 use Rattle.plain_steps.specs.Sets.{has, family}
 use Rattle.plain_steps.specs.Task.{Plain, is_scoped, masked, masked_same, problem_of, Completes, IsSatisfiable, IsExtending}
@@ -14,7 +14,7 @@ use Rattle.search_rules.specs.Box.{IsBoxNarrowed, IsBoxSame}
 use Rattle.search_rules.specs.Trail.{IsPart}
 use Rattle.search_rules.specs.Walk.{conflict_box, narrowing_box}
 use Rattle.search_rules.specs.Box.{resolvent}
-use Rattle.plain_steps.specs.Sets.{IsTable, resolved}
+use Rattle.plain_steps.specs.Sets.{IsTable, united, resolved}
 use Rattle.plain_steps.specs.Steps.{conflict_sides, IsBox}
 use Rattle.std.specs.List.{filter}
 
@@ -351,13 +351,13 @@ resolvent_is a b sides v n table count long lt = record {
   same = fun_ext (λ u. fun_ext (λ x. elim (cases_lt u n) [
     | inl below ↦ family_table (resolved a b v) n sides u x table below ∙ elim (cases_eq u v) [
       | inl same ↦
-          ap (λ xs. has xs x) (cond-true (eqb u v) (get_or a u [] ++ get_or b u []) (filter (λ y. has (get_or b u []) y) (get_or a u [])) (eq-eqb u v same))
-          ∙ (has-append (get_or a u []) (get_or b u []) x
+          ap (λ xs. has xs x) (cond-true (eqb u v) (united (get_or a u []) (get_or b u [])) (filter (λ y. has (get_or b u []) y) (get_or a u [])) (eq-eqb u v same))
+          ∙ (has-united (get_or a u []) (get_or b u []) x
           ∙ (ap (λ t. t || has (get_or b u []) x) (sym (family-at a u x (omega arith)))
           ∙ (ap (λ t. family a u x || t) (sym (family-at b u x (omega arith)))
           ∙ sym (cond-true (eqb u v) (family a u x || family b u x) (family a u x && family b u x) (eq-eqb u v same)))))
       | inr apart ↦
-          ap (λ xs. has xs x) (cond-false (eqb u v) (get_or a u [] ++ get_or b u []) (filter (λ y. has (get_or b u []) y) (get_or a u [])) (ne_eqb u v apart))
+          ap (λ xs. has xs x) (cond-false (eqb u v) (united (get_or a u []) (get_or b u [])) (filter (λ y. has (get_or b u []) y) (get_or a u [])) (ne_eqb u v apart))
           ∙ (has-filter (λ y. has (get_or b u []) y) (get_or a u []) x
           ∙ (ap (λ t. t && has (get_or b u []) x) (sym (family-at a u x (omega arith)))
           ∙ (ap (λ t. family a u x && t) (sym (family-at b u x (omega arith)))

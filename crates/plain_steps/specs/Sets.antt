@@ -1,6 +1,6 @@
 -- Sets as lists of values, and families and boxes as lists of sets, one for each variable.
 -- Source: this project's own.
-use Rattle.std.specs.Prelude.{◌≡◌, ℕ, ◌<◌, ◌==◌, nat_lt, Bool, true, false, cond, ◌||◌, List, [], ◌∷◌, ◌++◌, length, slice_index_or}
+use Rattle.std.specs.Prelude.{◌≡◌, ℕ, ◌<◌, ◌==◌, nat_lt, Bool, true, false, not, cond, ◌||◌, List, [], ◌∷◌, ◌++◌, length, slice_index_or}
 use Rattle.std.specs.List.{filter}
 
 -- the value is in the list
@@ -17,8 +17,12 @@ pub record IsTable (f : ℕ → List ℕ) (n : ℕ) (sets : List (List ℕ)) : T
   pub long : length sets ≡ n
   pub at : (v : ℕ) → v < n → slice_index_or sets v [] ≡ f v
 
+-- the values of both lists, those of the second that are in the first left out
+abbrev pub united : List ℕ → List ℕ → List ℕ
+united a b = a ++ filter (λ x. not (has a x)) b
+
 -- the sides of a resolvent
 abbrev pub resolved : List (List ℕ) → List (List ℕ) → ℕ → ℕ → List ℕ
 resolved a b v u =
-    cond (u == v) (slice_index_or a u [] ++ slice_index_or b u [])
+    cond (u == v) (united (slice_index_or a u []) (slice_index_or b u []))
     (filter (λ x. has (slice_index_or b u []) x) (slice_index_or a u []))

@@ -6,7 +6,7 @@ use Rattle.search_rules.specs.Problem.{IsNarrowed, IsLeft, IsViolated}
 use Rattle.search_rules.specs.Box.{IsBoxNarrowed, IsBoxSame}
 use Rattle.search_rules.specs.Trail.{IsPart}
 use Rattle.plain_steps.specs.Sets.{has, family}
-use Rattle.plain_steps.specs.Task.{Plain, problem_of}
+use Rattle.plain_steps.specs.Task.{Plain, problem_of, IsSatisfiable}
 use Rattle.plain_steps.specs.declared.step.Step.{Step}
 use Rattle.plain_steps.specs.declared.step.Step.TheVariants.{Conflict, Narrowed, Same}
 
@@ -14,7 +14,7 @@ abbrev pub IsStepOf : Plain → ℕ → List (List ℕ) → Step → Type 0
 IsStepOf p c f Conflict = IsViolated (problem_of p) c (family f)
 IsStepOf p c f (Narrowed v s) =
     (v < length f) × IsPart (has s) (family f v) × IsNarrowed (problem_of p) c (family f) v (has s)
-IsStepOf p c f Same = IsLeft (problem_of p) c (family f)
+IsStepOf p c f Same = IsLeft (problem_of p) c (family f) × IsSatisfiable p c f
 
 abbrev pub IsBoxStepOf : List (List ℕ) → List (List ℕ) → Step → Type 0
 IsBoxStepOf b f Conflict = AllLie (family f) (family b)

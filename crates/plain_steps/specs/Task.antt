@@ -1,6 +1,6 @@
 -- A problem over explicit lists of values, as the problem that the rules of the search are about.
 -- Source: this project's own.
-use Rattle.std.specs.Prelude.{◌≡◌, ℕ, ◌<◌, ◌==◌, nat_lt, Bool, true, false, cond, ◌&&◌, List, [], ◌∷◌, length, slice_index_or, refl}
+use Rattle.std.specs.Prelude.{◌≡◌, ℕ, ◌<◌, ◌≤◌, ◌==◌, nat_lt, Bool, true, false, cond, ◌&&◌, List, [], ◌∷◌, length, slice_index_or, refl}
 use Rattle.std.proofs.Common.{sym, ◌∙◌, inl, inr, subst}
 use Rattle.std.proofs.lemmas.Bool.{ltb-true, and_parts, or_cases, eqb-true, lt-ltb, cond-true, both_ways}
 use Rattle.std.proofs.Math.Path.{fun_ext}
@@ -42,7 +42,15 @@ masked_same p c a b same = fun_ext (λ v. at v (is_scoped p c v) (same v))
     at v true equal = equal refl
     at v false equal = refl
 
--- every decision is allowed, and the search stops at its first answer, so no answer covers anything
+-- The branching rule: the first variable with more than one value keeps its least one.
+pub record Decides (f : ℕ → ℕ → Bool) (v : ℕ) (s : ℕ → Bool) : Type 0 where
+  pub first : (u x y : ℕ) → u < v → f u x ≡ true → f u y ≡ true → x ≡ y
+  pub value : ℕ
+  pub there : f v value ≡ true
+  pub least : (y : ℕ) → f v y ≡ true → value ≤ y
+  pub kept : s ≡ has (value ∷ [])
+
+-- the search stops at its first answer, so no answer covers anything
 abbrev pub problem_of : Plain → Problem ℕ
 problem_of p = record {
   variables = length p.sets;
@@ -54,7 +62,7 @@ problem_of p = record {
   scoped = λ c v is. ltb-true v (length p.sets) (and_parts (p.scope c v) (nat_lt v (length p.sets)) is).1;
   holds = λ c a. p.holds c (masked p c a) ≡ true;
   reads = λ c a b same is. subst (λ m. p.holds c m ≡ true) (masked_same p c a b same) is;
-  decides = λ f v s. Unit {0};
+  decides = Decides;
   covers = λ answer a. ⊥;
 }
 

@@ -1,10 +1,10 @@
 //! The boxes of conflicts and of narrowings.
 
-ghost use Rattle.std.specs.Prelude.{◌≡◌, ℕ, ◌<◌, Bool, true, List, [], length, slice_index_or, IfOk};
+ghost use Rattle.std.specs.Prelude.{◌≡◌, ◌<◌, length, IfOk};
 ghost use Rattle.search_rules.specs.Walk.{conflict_box as box_of_conflict, narrowing_box as box_of_narrowing};
 ghost use Rattle.plain_steps.specs.Sets.{has, family as family_of};
 ghost use Rattle.plain_steps.specs.Task.{problem_of};
-ghost use Rattle.plain_steps.specs.Steps.{conflict_sides, IsBox};
+ghost use Rattle.plain_steps.specs.Steps.{IsBox};
 
 use crate::set::{copied, without};
 use crate::table::set_of;

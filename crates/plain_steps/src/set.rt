@@ -1,6 +1,6 @@
 //! Sets as lists of values.
 
-ghost use Rattle.std.specs.Prelude.{◌≡◌, ℕ, Bool, true, false, not, ◌++◌, MatchBool, IfOk};
+ghost use Rattle.std.specs.Prelude.{◌≡◌, ℕ, true, false, not, ◌++◌, MatchBool, IfOk};
 ghost use Rattle.std.specs.List.{filter};
 ghost use Rattle.search_rules.specs.Family.{Lies, Leaves, Meets};
 ghost use Rattle.plain_steps.specs.Sets.{has};
@@ -63,12 +63,13 @@ pub fn both(alloc: Global, a: &[u32], b: &[u32]) -> Result<Set, AllocError>
     Ok(Listed::of(kept))
 }
 
-/// The values of either set.
+/// The values of either set: those of `a`, and then those of `b` that are not in it.
 pub fn either(alloc: Global, a: &[u32], b: &[u32]) -> Result<Set, AllocError>
-    ensures { IfOk result (λ s. s ≡ a.now ++ b.now) }
+    ensures { IfOk result (λ s. s ≡ a.now ++ filter (λ x. not (has a.now x)) b.now) }
 {
     let mut values = Vec::from_slice(alloc, a)?;
-    values.extend_from_slice(b)?;
+    let more = without(alloc, b, a)?;
+    values.extend_from_slice(more.items())?;
     Ok(Listed::of(values))
 }
 

@@ -1,7 +1,7 @@
 //! The exact step of a constraint, by trying all values of its variables.
 
-ghost use Rattle.std.specs.Prelude.{◌≡◌, ◌≢◌, ℕ, ◌<◌, ◌≤◌, Bool, true, false, List, [], length, slice_index, slice_index_or, MatchBool, IfOk};
-ghost use Rattle.plain_steps.specs.Task.{Plain, is_scoped, problem_of, Completes, IsSatisfiable};
+ghost use Rattle.std.specs.Prelude.{◌≡◌, ◌≢◌, ℕ, ◌<◌, ◌≤◌, true, false, [], length, slice_index, slice_index_or, MatchBool, IfOk};
+ghost use Rattle.plain_steps.specs.Task.{is_scoped, problem_of, Completes, IsSatisfiable};
 ghost use Rattle.plain_steps.specs.Sets.{has, family as family_of};
 ghost use Rattle.search_rules.specs.Family.{Lies, Leaves};
 ghost use Rattle.search_rules.specs.Problem.{Extends, IsNarrowed, IsViolated};

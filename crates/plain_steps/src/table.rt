@@ -1,6 +1,6 @@
 //! Families and boxes as lists of sets, one for each variable.
 
-ghost use Rattle.std.specs.Prelude.{◌≡◌, ℕ, ◌<◌, ◌≤◌, List, [], length, slice_index_or, MatchOption, IfOk};
+ghost use Rattle.std.specs.Prelude.{◌≡◌, ℕ, ◌<◌, ◌≤◌, [], length, slice_index_or, MatchOption, IfOk};
 ghost use Rattle.search_rules.specs.Family.{Lies, Leaves};
 ghost use Rattle.plain_steps.specs.Sets.{has, family as family_of};
 ghost use Rattle.search_rules.specs.Box.{resolvent as resolvent_of};

@@ -1,6 +1,6 @@
 //! A problem over explicit lists of values.
 
-ghost use Rattle.std.specs.Prelude.{◌≡◌, ℕ, length, slice_index};
+ghost use Rattle.std.specs.Prelude.{◌≡◌, length, slice_index};
 ghost use Rattle.plain_steps.specs.Task.{Plain};
 
 use crate::Set;
@@ -21,7 +21,8 @@ pub trait Task {
     fn speaks_of(&self, constraint: usize, variable: usize) -> bool
         ensures { result ≡ (plain self.now).scope constraint variable };
 
-    /// Whether the values, one for each variable, satisfy the constraint. It reads those of its own variables alone.
+    /// Whether the values, one for each variable, satisfy the constraint. The values of
+    /// variables that it does not speak of count as 0.
     fn holds(&self, constraint: usize, values: &[u32]) -> bool
         requires { length values.now ≡ length (plain self.now).sets }
         ensures { result ≡ (plain self.now).holds constraint (λ v. slice_index values.now v) };

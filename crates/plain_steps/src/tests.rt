@@ -1,6 +1,6 @@
 //! Two variables over 1 and 2, the first less than the second.
 
-ghost use Rattle.std.specs.Prelude.{◌≡◌, ℕ, nat_lt, length, slice_index, IfOk};
+ghost use Rattle.std.specs.Prelude.{◌≡◌, nat_lt, length, slice_index, IfOk};
 
 use super::*;
 use listed::Listed;

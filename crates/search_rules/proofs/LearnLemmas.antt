@@ -7,7 +7,7 @@ use Rattle.search_rules.specs.Box.{IsBoxNarrowed, AreTwoOutside}
 use Rattle.search_rules.specs.Trail.{Entry, Stored, IsLearned, IsTrail, Replays, IsQuiet, undo, top, back, cut}
 use Rattle.search_rules.specs.Walk.{SomeMatters, OnlyMatters, Stops, Walk, begin, pass, resolve, Derives, IsBackLevel, IsNewestOther}
 use Rattle.search_rules.proofs.FamilyLemmas.{put_each, put-same, put-other, assign_each, assign-same, lies_not_leaves, leaves_more}
-use Rattle.search_rules.proofs.TrailLemmas.{back-over, back-stay, back_grows, cut_replays, quiet_below}
+use Rattle.search_rules.proofs.TrailLemmas.{back-over, cut-over, back-stay, back_grows, cut_replays, quiet_below}
 use Rattle.search_rules.proofs.WalkLemmas.{walk_trail, walk_holds, conflict_holds, replays_within}
 
 -- what matters at a level is an entry of that level
@@ -113,6 +113,19 @@ walk_back {p = p} k replays (resolve {e} {rest} {g} {c} walk on matters) =
     let (here, same) = walk_back k replays walk in
     let low : top rest ≤ e.level = here.0.low in
     (here.1, λ lt. let below : k < e.level = omega arith in sym (back-over k e rest g below) ∙ same below)
+
+-- nor do the entries up to there
+pub walk_cut : {X : Type 0} {p : Problem X} {es : List (Entry X)} {f b : ℕ → X → Bool} {rest : List (Entry X)} {g c : ℕ → X → Bool}
+    (k : ℕ) → Replays p es f → Walk p es f b rest g c → (Replays p rest g) × (k < top rest → cut k rest ≡ cut k es)
+walk_cut k replays begin = (replays, λ lt. refl)
+walk_cut {p = p} k replays (pass {e} {rest} {g} {c} walk on lies) =
+    let (here, same) = walk_cut k replays walk in
+    let low : top rest ≤ e.level = here.0.low in
+    (here.1, λ lt. let below : k < e.level = omega arith in sym (cut-over k e rest below) ∙ same below)
+walk_cut {p = p} k replays (resolve {e} {rest} {g} {c} walk on matters) =
+    let (here, same) = walk_cut k replays walk in
+    let low : top rest ≤ e.level = here.0.low in
+    (here.1, λ lt. let below : k < e.level = omega arith in sym (cut-over k e rest below) ∙ same below)
 
 -- the newest level only falls on the way of the walk
 pub walk_top : {X : Type 0} {p : Problem X} {es : List (Entry X)} {f b : ℕ → X → Bool} {rest : List (Entry X)} {g c : ℕ → X → Bool}

@@ -1,9 +1,9 @@
 -- Steps and parts of steps reach the root family, in whatever order they are taken.
-use Rattle.std.proofs.Common.{◌≡◌, ℕ, ◌<◌, Bool, true, List, ◌⊎◌, refl, sym, subst, inl, inr}
-use Rattle.std.proofs.lemmas.Bool.{cases_Bool}
+use Rattle.std.proofs.Common.{◌≡◌, ℕ, zero, suc, ◌<◌, Bool, true, false, List, ◌⊎◌, refl, sym, ◌∙◌, subst, inl, inr, arith}
+use Rattle.std.proofs.lemmas.Bool.{cases_Bool, cases_eq, both_ways}
 use Rattle.search_rules.specs.Family.{Lies, AllLie, IsWithin, put}
-use Rattle.search_rules.specs.Problem.{Problem, Extends, IsExactStep, IsNarrowed, IsLeft, IsPartOfStep, Steps, start, next, InRootFamily, IsSingle, IsSolution}
-use Rattle.search_rules.proofs.FamilyLemmas.{put_each}
+use Rattle.search_rules.specs.Problem.{Problem, Extends, IsExactStep, IsNarrowed, IsLeft, IsPartOfStep, Steps, start, next, InRootFamily, IsRootRefuted, IsViolated, IsSingle, IsSolution}
+use Rattle.search_rules.proofs.FamilyLemmas.{put_each, put-other}
 
 pub extends_in : {X : Type 0} {p : Problem X} {c : ℕ} {f : ℕ → X → Bool} {v : ℕ} {x : X} → Extends p c f v x → f v x ≡ true
 extends_in {X} {p} {c} {f} {v} e = subst (λ y. f v y ≡ true) e.at (e.inside v e.scoped)
@@ -94,3 +94,69 @@ single_solves {X} p f a within single left each = record {
         p.reads c e.values a (λ v scoped. single.only v (e.values v) (p.scoped c v scoped) (e.inside v scoped)) e.holds
   ];
 }
+
+-- where one variable is left what extends, the same values extend
+pub extends_narrowed : {X : Type 0} {p : Problem X} {c : ℕ} {f : ℕ → X → Bool} {v : ℕ} {s : X → Bool} {u : ℕ} {x : X}
+    → IsNarrowed p c f v s → Extends p c f u x → Extends p c (put f v s) u x
+extends_narrowed {X} {p} {c} {f} {v} {s} narrowed e = record {
+  values = e.values;
+  scoped = e.scoped;
+  at = e.at;
+  inside = put_each f v s (λ w t. p.scope c w ≡ true → t (e.values w) ≡ true)
+      (λ scoped. narrowed.whole (e.values v)
+      (record { values = e.values; scoped = narrowed.scoped; at = refl; inside = e.inside; holds = e.holds }))
+      (λ w ne scoped. e.inside w scoped);
+  holds = e.holds;
+}
+
+pub extends_before : {X : Type 0} {p : Problem X} {c : ℕ} {f : ℕ → X → Bool} {v : ℕ} {s : X → Bool} {u : ℕ} {x : X}
+    → IsNarrowed p c f v s → Extends p c (put f v s) u x → Extends p c f u x
+extends_before {X} {p} {c} {f} {v} {s} narrowed e = extends_more (narrowed_is_part p c f v s narrowed).smaller e
+
+pub exact_after : {X : Type 0} (p : Problem X) (c : ℕ) (f g : ℕ → X → Bool) (v : ℕ) (s : X → Bool) → IsNarrowed p c f v s
+    → IsExactStep p c f g → IsExactStep p c (put f v s) g
+exact_after p c f g v s narrowed step = record {
+  sound = λ u x scoped has. extends_narrowed narrowed (step.sound u x scoped has);
+  whole = λ u x e. step.whole u x (extends_before narrowed e);
+  others = λ u out.
+      step.others u out
+      ∙ sym (put-other f v s u (λ same. both_ways (p.scope c v) (subst (λ w. p.scope c w ≡ false) same out) narrowed.scoped));
+}
+
+pub violated_none : {X : Type 0} (p : Problem X) (c : ℕ) (f : ℕ → X → Bool) (a : ℕ → X) → c < p.constraints → IsViolated p c f
+    → IsSolution p a → IsWithin f a → ⊥
+violated_none p c f a known violated solution within = violated a (λ u scoped. within u) (solution.holds c known)
+
+-- the constraint speaks of one of the first `n` variables, or of none of them
+pub scope_some : {X : Type 0} (p : Problem X) (c n : ℕ)
+    → ((v : ℕ) × (v < n) × (p.scope c v ≡ true)) ⊎ ((v : ℕ) → v < n → p.scope c v ≡ false)
+scope_some p c zero = inr (λ v lt. absurd (omega arith))
+scope_some p c (suc n) = elim (scope_some p c n) [
+  | inl some ↦ inl (some.0, omega (arith, some.1), some.2)
+  | inr none ↦ elim (cases_Bool (p.scope c n)) [
+    | inl scoped ↦ inl (n, omega arith, scoped)
+    | inr out ↦ inr (λ v lt. elim (cases_eq v n) [
+      | inl same ↦ subst (λ w. p.scope c w ≡ false) (sym same) out
+      | inr apart ↦ let below : v < n = omega arith in none v below
+    ])
+  ]
+]
+
+pub violated_root : {X : Type 0} (p : Problem X) (cs : List ℕ) (c : ℕ) (f : ℕ → X → Bool) → Steps p p.initial cs f
+    → c < p.constraints → IsViolated p c f → IsRootRefuted p
+violated_root {X} p cs c f steps known violated = elim (scope_some p c p.variables) [
+  | inl some ↦ inl (
+    some.0,
+    some.1,
+    λ x root.
+        let e : Extends p c root.family some.0 x = root.left c known some.0 x some.2 root.has in
+        violated e.values
+        (λ u scoped. steps_keep root.family steps root.initial root.left u (e.values u) (e.inside u scoped)) e.holds,
+  )
+  | inr none ↦
+      let free : (v : ℕ) → p.scope c v ≡ false = λ v. elim (cases_Bool (p.scope c v)) [
+        | inr out ↦ out
+        | inl scoped ↦ none v (p.scoped c v scoped)
+      ] in
+      inr (c, known, free, λ a holds. violated a (λ u scoped. absurd (both_ways (p.scope c u) (free u) scoped)) holds)
+]

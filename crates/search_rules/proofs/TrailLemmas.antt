@@ -1,5 +1,5 @@
 -- The trail: going back to a level, the levels of its entries, and sets that only grow on the way back.
-use Rattle.std.proofs.Common.{◌≡◌, ℕ, ◌+◌, ◌<◌, ◌≤◌, ltb, Bool, List, [], ◌∷◌, refl, sym, ap, ◌∙◌, subst, inl, inr, arith}
+use Rattle.std.proofs.Common.{◌≡◌, ℕ, ◌+◌, ◌<◌, ◌≤◌, ltb, Bool, List, [], ◌∷◌, length, refl, sym, ap, ◌∙◌, subst, inl, inr, arith}
 use Rattle.std.proofs.lemmas.Bool.{lt-ltb, le-ltb, cases_lt, cond-true, cond-false}
 use Rattle.search_rules.specs.Family.{Lies, AllLie}
 use Rattle.search_rules.specs.Problem.{Problem}
@@ -70,6 +70,14 @@ top-cut {X} p k (e ∷ es) f replays le = elim (cases_lt k e.level) [
       let same : e.level ≡ k = omega arith in
       ap top (cut-stay k e es above) ∙ same
 ]
+
+-- each level above 0 has an entry of its own
+pub top_low : {X : Type 0} (p : Problem X) (es : List (Entry X)) (f : ℕ → X → Bool) → Replays p es f → top es ≤ length es
+top_low p [] f replays = omega arith
+top_low p (e ∷ es) f replays =
+    let high : e.level ≤ top es + 1 = replays.0.high in
+    let low : top es ≤ length es = top_low p es (undo f e) replays.1 in
+    omega arith
 
 -- what is kept of a trail is a trail
 pub cut_replays : {X : Type 0} (p : Problem X) (k : ℕ) (es : List (Entry X)) (f : ℕ → X → Bool) → Replays p es f

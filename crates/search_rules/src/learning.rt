@@ -3,7 +3,7 @@
 ghost use Rattle.std.specs.Prelude.{◌≡◌, ℕ, ◌<◌, Bool, List};
 ghost use Rattle.search_rules.specs.Family.{HasValue, IsWithin, Leaves, without};
 ghost use Rattle.search_rules.specs.Box.{IsBoxNarrowed};
-ghost use Rattle.search_rules.specs.Trail.{Entry, Stored, IsLearned, IsTrail, back};
+ghost use Rattle.search_rules.specs.Trail.{Entry, Stored, IsLearned, IsTrail, back, cut};
 ghost use Rattle.search_rules.specs.Walk.{Derives, IsBackLevel, IsNewestOther};
 
 use crate::Rules;
@@ -19,6 +19,9 @@ pub fn level_to_go_back_to<P: Rules>(problem: &P)
 /// The level to go back to is below that at which the walk stopped. There the box step narrows the variable: its set is the
 /// only one outside its side, and it has a value inside.
 pub fn derived_box_narrows<P: Rules>(problem: &P)
+    ensures known { let p = P.problem problem.now in
+        (boxes : List (Stored P.Value)) (es : List (Entry P.Value)) (f b : ℕ → P.Value → Bool) (l v : ℕ)
+        → IsTrail p boxes es f → Derives p boxes es f b l v → v < p.variables }
     ensures below { let p = P.problem problem.now in
         (boxes : List (Stored P.Value)) (es : List (Entry P.Value)) (f b : ℕ → P.Value → Bool) (l v k : ℕ)
         → IsTrail p boxes es f → Derives p boxes es f b l v → IsBackLevel es f b v k → k < l }
@@ -26,6 +29,17 @@ pub fn derived_box_narrows<P: Rules>(problem: &P)
         (boxes : List (Stored P.Value)) (es : List (Entry P.Value)) (f b : ℕ → P.Value → Bool) (l v k : ℕ)
         → IsTrail p boxes es f → Derives p boxes es f b l v → IsBackLevel es f b v k
         → IsBoxNarrowed b (back k es f) v (without (back k es f v) (b v)) }
+{}
+
+/// To a level below that at which the walk stopped, going back from where it stopped leads where going back from the conflict
+/// leads.
+pub fn stop_goes_back_as_the_trail<P: Rules>(problem: &P)
+    ensures family { let p = P.problem problem.now in
+        (boxes : List (Stored P.Value)) (es : List (Entry P.Value)) (f b : ℕ → P.Value → Bool) (l v k : ℕ)
+        → IsTrail p boxes es f → (d : Derives p boxes es f b l v) → k < l → back k d.rest d.reached ≡ back k es f }
+    ensures entries { let p = P.problem problem.now in
+        (boxes : List (Stored P.Value)) (es : List (Entry P.Value)) (f b : ℕ → P.Value → Bool) (l v k : ℕ)
+        → IsTrail p boxes es f → (d : Derives p boxes es f b l v) → k < l → cut k d.rest ≡ cut k es }
 {}
 
 /// The derived box lies in no learned box.

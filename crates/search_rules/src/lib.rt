@@ -17,14 +17,17 @@ mod turns;
 mod walks;
 
 pub use boxes::{box_step_is_the_step_outside, resolvent_lies_in_its_boxes};
-pub use learning::{derived_box_is_new, derived_box_narrows, level_to_go_back_to};
+pub use learning::{
+    derived_box_is_new, derived_box_narrows, level_to_go_back_to, stop_goes_back_as_the_trail,
+};
 pub use steps::{
-    parts_of_steps, single_values_are_a_solution, steps_keep_solutions, steps_reach_the_root_family,
+    exact_step_goes_by_variables, parts_of_steps, single_values_are_a_solution,
+    steps_keep_solutions, steps_reach_the_root_family, violated_constraint_refutes,
 };
 pub use turns::{
     answer_keeps_the_state_legal, conflict_turn, decision_keeps_the_state_legal,
     going_back_keeps_the_state_legal, narrowing_keeps_the_state_legal,
-    safe_box_keeps_the_state_legal, the_first_state_is_legal,
+    safe_box_keeps_the_state_legal, the_first_state_is_legal, trails_stay_within,
 };
 pub use walks::{
     walk_holds_what_is_excluded, walk_past_the_first_entry, walk_resolves_no_decision,

@@ -2,7 +2,7 @@
 
 ghost use Rattle.std.specs.Prelude.{◌≡◌, ◌↔◌, ℕ, ◌<◌, Bool, true, List, ◌⊎◌};
 ghost use Rattle.search_rules.specs.Family.{AllLie, IsWithin, put};
-ghost use Rattle.search_rules.specs.Problem.{IsExactStep, IsNarrowed, IsLeft, IsPartOfStep, Steps, InRootFamily, IsRootRefuted, IsSingle, IsSolution};
+ghost use Rattle.search_rules.specs.Problem.{Extends, IsViolated, IsExactStep, IsNarrowed, IsLeft, IsPartOfStep, Steps, InRootFamily, IsRootRefuted, IsSingle, IsSolution};
 
 use crate::Rules;
 
@@ -44,4 +44,26 @@ pub fn single_values_are_a_solution<P: Rules>(problem: &P)
         → ((c : ℕ) → c < p.constraints → IsLeft p c f)
         → ((c : ℕ) → c < p.constraints → ((v : ℕ) × (p.scope c v ≡ true)) ⊎ p.holds c a)
         → IsSolution p a }
+{}
+
+/// The exact step may be taken one variable after another: leaving one variable what extends changes neither what else extends
+/// nor the family that the exact step leads to.
+pub fn exact_step_goes_by_variables<P: Rules>(problem: &P)
+    ensures extends { let p = P.problem problem.now in
+        (c : ℕ) (f : ℕ → P.Value → Bool) (v : ℕ) (s : P.Value → Bool) → IsNarrowed p c f v s
+        → (u : ℕ) (x : P.Value) → Extends p c f u x ↔ Extends p c (put f v s) u x }
+    ensures exact { let p = P.problem problem.now in
+        (c : ℕ) (f g : ℕ → P.Value → Bool) (v : ℕ) (s : P.Value → Bool) → IsNarrowed p c f v s → IsExactStep p c f g
+        → IsExactStep p c (put f v s) g }
+{}
+
+/// A violated constraint: no solution lies within the family, and where steps led to it from the initial family, the root is
+/// refuted.
+pub fn violated_constraint_refutes<P: Rules>(problem: &P)
+    ensures none { let p = P.problem problem.now in
+        (c : ℕ) (f : ℕ → P.Value → Bool) (a : ℕ → P.Value) → c < p.constraints → IsViolated p c f → IsSolution p a
+        → IsWithin f a → ⊥ }
+    ensures root { let p = P.problem problem.now in
+        (cs : List ℕ) (c : ℕ) (f : ℕ → P.Value → Bool) → Steps p p.initial cs f → c < p.constraints → IsViolated p c f
+        → IsRootRefuted p }
 {}

@@ -1,8 +1,8 @@
 //! Laws of the legal state: what each move of the search leaves of it, and that the measure falls.
 
-ghost use Rattle.std.specs.Prelude.{◌≡◌, ℕ, ◌<◌, ◌≤◌, Bool, true, false, List, [], ◌∷◌};
-ghost use Rattle.search_rules.specs.Family.{put, without};
-ghost use Rattle.search_rules.specs.Trail.{Reason, Decision, ByBox, Entry, Stored, IsPart, IsReason, IsQuiet, back, cut, narrowing_entry, decision_entry};
+ghost use Rattle.std.specs.Prelude.{◌≡◌, ℕ, ◌<◌, ◌≤◌, Bool, true, false, List, [], ◌∷◌, length};
+ghost use Rattle.search_rules.specs.Family.{HasValue, AllLie, put, without};
+ghost use Rattle.search_rules.specs.Trail.{Reason, Decision, ByBox, Entry, Stored, IsTrail, IsPart, IsReason, IsQuiet, top, back, cut, narrowing_entry, decision_entry};
 ghost use Rattle.search_rules.specs.Walk.{Derives, IsBackLevel};
 ghost use Rattle.search_rules.specs.State.{IsLegal, IsSafe};
 ghost use Rattle.search_rules.specs.Measure.{measure};
@@ -48,6 +48,20 @@ pub fn going_back_keeps_the_state_legal<P: Rules>(problem: &P)
 /// The search begins in a legal state: no entries, no boxes, the initial family.
 pub fn the_first_state_is_legal<P: Rules>(problem: &P)
     ensures { let p = P.problem problem.now in IsLegal p [] [] [] p.initial }
+{}
+
+/// On each trail the sets lie in the initial ones, a variable has a value where each has an initial one, and there are no
+/// more levels above 0 than entries.
+pub fn trails_stay_within<P: Rules>(problem: &P)
+    ensures initial { let p = P.problem problem.now in
+        (boxes : List (Stored P.Value)) (es : List (Entry P.Value)) (f : ℕ → P.Value → Bool)
+        → IsTrail p boxes es f → AllLie f p.initial }
+    ensures values { let p = P.problem problem.now in
+        (boxes : List (Stored P.Value)) (es : List (Entry P.Value)) (f : ℕ → P.Value → Bool)
+        → IsTrail p boxes es f → ((v : ℕ) → HasValue (p.initial v)) → (v : ℕ) → HasValue (f v) }
+    ensures levels { let p = P.problem problem.now in
+        (boxes : List (Stored P.Value)) (es : List (Entry P.Value)) (f : ℕ → P.Value → Bool)
+        → IsTrail p boxes es f → top es ≤ length es }
 {}
 
 /// A further answer keeps the state legal.
