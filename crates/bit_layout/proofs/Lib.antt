@@ -1,0 +1,11 @@
+pub mod Rising
+pub mod Numbers
+pub mod Elements
+pub mod KindWords
+pub mod Sorting
+pub mod Listing
+pub mod Finding
+pub mod Keeping
+pub mod Making
+pub mod ValuesAt
+pub mod Samples

@@ -1,0 +1,4 @@
+pub mod Words
+pub mod Limits
+pub mod Order
+pub mod Body
