@@ -45,9 +45,8 @@ impl Model for Layout {
 impl Layout {
     /// The layout of the problem, whose kinds are within the limits: integer variables with at most 65,535 between their
     /// least and greatest value, and at most 1,048,576 bits in all, each variable counted as at least one. It keeps a copy
-    /// of the kinds, and takes time of the order of the bits times the logarithm of their number, and time
-    /// and memory for the integers and elements that the kinds list. An `Err` is want of
-    /// memory.
+    /// of the kinds, and takes time of the order of the bits times the logarithm of their number, and time and memory for the
+    /// integers and elements that the kinds list. An `Err` is want of memory.
     pub fn new(alloc: Global, p: &Problem) -> Result<Layout, AllocError>
         requires { AreWithinLimits p.now.kinds }
         ensures kinds { IfOk result (λ layout. layout.kinds ≡ p.now.kinds) }
@@ -128,7 +127,8 @@ impl Layout {
         )
     }
 
-    /// The word of one of the variable's initial values. An `Err` is want of memory.
+    /// The word of one of the variable's initial values. That of a set takes one look-up in it for each element of the
+    /// universe. An `Err` is want of memory.
     pub fn word_of(&self, alloc: Global, v: VarId, value: &Value) -> Result<Vec<bool>, AllocError>
         requires { IsSomeAnd (slice_get self.now.kinds v.0) (λ k. InKind k value.now) }
         ensures word { IfOk result (λ word. word.items ≡ word_at self.now v value.now) }
@@ -139,7 +139,7 @@ impl Layout {
     }
 
     /// The initial value of the variable whose word this is; None exactly where it is no initial value's, as a word between
-    /// the integers of a domain with holes. An `Err` is want of memory.
+    /// the integers of a domain with holes. A set takes memory for its elements. An `Err` is want of memory.
     pub fn value_of(
         &self,
         alloc: Global,

@@ -118,8 +118,8 @@ impl<M: Machine> Machine for Not<M> {
     }
 }
 
-/// The machine that accepts where the bit at one place is true. Places count from 0; a place beyond the bits
-/// accepts no word.
+/// The machine that accepts where the bit at one place is true. Places count from 0, and the place is to be one
+/// of the bits that are read.
 #[derive(Clone, Copy, Debug, Drop)]
 pub struct OneBit {
     pub place: usize,

@@ -28,7 +28,7 @@ pub fn complemented_accepts<S>()
     ensures { (rules : Rules S) (bits : List ℕ) (w : Word) → accepts (complemented rules) bits w ≡ not (accepts rules bits w) }
 {}
 
-/// The machine of one bit accepts just the words whose bit at that place is true.
+/// The machine of one bit accepts just the words whose bit at that place is true, where the place is one of the list's.
 pub fn one_bit_accepts()
     ensures { (place : ℕ) (bits : List ℕ) (w : Word) → place < length bits → accepts (bit_at place) bits w ≡ w (slice_index bits place) }
 {}

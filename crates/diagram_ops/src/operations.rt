@@ -47,7 +47,8 @@ impl Model for Ops {
 
 impl Ops {
     /// A pool with no nodes, that will hold at most `limit` nodes: 1 to `MAX_LIMIT`. `cache` is the
-    /// number of results to keep in mind, 1 to 1,000,000. It has no effect yet: all are kept.
+    /// number of results to keep in mind, 1 to 1,000,000. It has no effect yet: all are kept. An `Err`
+    /// would be want of memory; none comes yet.
     pub fn new(alloc: Global, limit: u32, cache: usize) -> Result<Ops, AllocError>
         requires some { 0 < limit }
         requires most { limit ≤ most_nodes }
@@ -84,7 +85,7 @@ impl Ops {
         self.pool.unpin(pin);
     }
 
-    /// Gives the node under `id` this tag.
+    /// Gives the node under `id`, which must be there, this tag; nothing else changes.
     pub fn set_tag(&mut self, id: NodeId, tag: u64)
         requires { IsLive (table self.old.arena) (Ref.Node id) }
         ensures tagged { ChangesNode self.old.arena self.new.arena id (λ (n : Node). record n { tag = tag }) }

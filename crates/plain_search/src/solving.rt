@@ -55,7 +55,8 @@ pub fn solve<T: Task>(alloc: Global, task: &T) -> Result<Outcome, AllocError>
     ensures answer { IfOk result (λ outcome. IsAnswer (T.plain task.now) outcome.answer) }
     ensures end { IfOk result (λ outcome. IsEnd (T.plain task.now) outcome.learned.items outcome.answer) }
 
-    // each box was derived by a walk over the boxes learned before it, so it lies in none of them
+    // Each box was derived by a walk over the boxes learned before it (that it lies in none of them is the law
+    // `derived_box_is_new`).
     ensures walked { IfOk result (λ outcome. AreWalked (problem_of (T.plain task.now)) (boxes_of outcome.learned.items)) }
     ensures safe { IfOk result (λ outcome. AreSafe (T.plain task.now) outcome.learned.items) }
     ensures sides { IfOk result (λ outcome. All (λ b. length b ≡ length (T.plain task.now).sets) outcome.learned.items) }
