@@ -1,0 +1,4 @@
+pub mod Grammar
+pub mod ToCome
+pub mod Faults
+pub mod Reading
