@@ -26,3 +26,7 @@ mod TextEnds
 mod Endings
 mod Parses
 mod OneEnd
+mod Told
+mod ToldItems
+mod Laid
+mod SmallIntegers

@@ -1,4 +1,5 @@
 pub mod Grammar
+pub mod Places
 pub mod ToCome
 pub mod Faults
 pub mod Reading

@@ -17,7 +17,7 @@ mod tree;
 mod types;
 
 pub use faults::{SyntaxFault, What};
-pub use laws::{tokens_tell_the_tree, what_is_to_come};
+pub use laws::{tokens_tell_the_tree, trees_are_in_order, what_is_to_come};
 pub use parsing::parse;
 pub use tree::{
     Ann, AnnArg, AnnForm, Basic, BasicForm, Expr, Form, GoalForm, Ident, Item, Num, Number,
