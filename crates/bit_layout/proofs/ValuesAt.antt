@@ -1,16 +1,21 @@
 -- Words and values of one variable.
-use Rattle.std.proofs.Common.{◌≡◌, ◌<◌, ◌↔◌, Bool, List, length, Option, Some, None, refl, sym, ap, ◌∙◌, subst}
+use Rattle.std.proofs.Common.{◌≡◌, ◌<◌, ◌↔◌, Bool, ℤ, List, length, Option, Some, None, refl, sym, ap, ◌∙◌, subst}
 use Rattle.std.specs.Prelude.{slice_get, IsSomeAnd, Result, Ok, Err, IfOk, IfSome, IfNone}
 use Rattle.std.specs.Option.{option_map_or}
 use Rattle.std.proofs.lemmas.Option.{slice_get_within}
 use Rattle.set_meaning.specs.declared.kinds.Kind.{Kind}
+use Rattle.set_meaning.specs.declared.kinds.Kind.TheVariants as kind
 use Rattle.set_meaning.specs.declared.problems.VarId.{VarId}
 use Rattle.set_meaning.specs.declared.kinds.Value.{Value}
+use Rattle.set_meaning.specs.declared.kinds.Value.TheVariants as value
+use Rattle.set_meaning.specs.Sets.{ascending_set}
+use Rattle.set_meaning.proofs.Ascending.{IsSetOf-ascending_set}
 use Rattle.set_meaning.specs.Kinds.{InKind}
 use Rattle.set_meaning.specs.Problems.{IsKind}
 use Rattle.bit_layout.specs.Words.{width_of, word_of, IsValueOf}
 use Rattle.bit_layout.specs.Order.{LayoutState, IsLayout, width_at, IsValueAt}
-use Rattle.bit_layout.proofs.KindWords.{length-word_of, one_value}
+use Rattle.bit_layout.proofs.Elements.{chosen}
+use Rattle.bit_layout.proofs.KindWords.{length-word_of, one_value, set_value}
 use Rattle.bit_layout.proofs.Finding.{legal_kind}
 
 -- ---- words of one variable
@@ -71,3 +76,10 @@ one_value_at l v word x y ok p q =
       | None ↦ λ e p q. absurd p
       | Some k ↦ λ e p q. one_value k word x y (legal_kind l v.0 k ok e) p q
     ] refl p q
+
+-- each word of a set's width has a value
+pub set_at : (l : LayoutState) (v : VarId) (u : List ℤ) (word : List Bool) → IsLayout l → slice_get l.kinds v.0 ≡ Some (kind.Set u) → length word ≡ length u → (set : List ℤ) × IsValueAt l v word (value.Set set)
+set_at l v u word ok e long =
+    let set : List ℤ = ascending_set (chosen u word) in
+    let P : Option Kind → Type 0 = λ o. IsSomeAnd o (λ k. IsValueOf k word (value.Set set)) in
+    (set, subst P (sym e) (set_value u word (chosen u word) set (legal_kind l v.0 (kind.Set u) ok e) long refl (IsSetOf-ascending_set (chosen u word))))

@@ -35,6 +35,11 @@ pub fn words_have_one_value()
     ensures { (l : LayoutState) (v : VarId) (word : List Bool) (x y : Value) → IsLayout l → IsValueAt l v word x → IsValueAt l v word y → x ≡ y }
 {}
 
+/// Each word of as many bits as a set variable's universe has elements is the word of one of its initial values.
+pub fn words_of_sets_have_values()
+    ensures { (l : LayoutState) (v : VarId) (universe : List ℤ) (word : List Bool) → IsLayout l → slice_get l.kinds v.0 ≡ Some (kinds.Set universe) → length word ≡ length universe → (set : List ℤ) × IsValueAt l v word (values.Set set) }
+{}
+
 /// There is one order of the bits of a problem.
 pub fn orders_are_one()
     ensures { (kinds : List Kind) (xs ys : List Place) → IsOrder kinds xs → IsOrder kinds ys → xs ≡ ys }

@@ -113,6 +113,14 @@ impl Layout {
         (place.variable, place.position)
     }
 
+    /// The variable, the position and the element for which a bit stands. Takes no memory, and constant time.
+    pub fn place_at(&self, bit: Bit) -> &Place
+        requires { bit < length self.now.places }
+        ensures { slice_get self.now.places bit ≡ Some result.now }
+    {
+        &self.places[bit as usize]
+    }
+
     /// The bits of the variable, ascending: one for each position of its words. Takes no memory, and constant time.
     pub fn bits_of(&self, v: VarId) -> &[Bit]
         requires { v.0 < length self.now.kinds }

@@ -13,10 +13,11 @@ mod words;
 
 pub use laws::{
     bits_are_in_order, integers_have_offsets, orders_are_one, values_have_words, widths_are_least,
-    words_have_one_value,
+    words_have_one_value, words_of_sets_have_values,
 };
 pub use layout::{Bit, Layout};
 pub use places::Place;
+pub use words::width;
 
 #[cfg(test)]
 mod tests;

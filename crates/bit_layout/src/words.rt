@@ -14,7 +14,7 @@ use set_meaning::{Kind, SetValue, Value};
 use std::alloc::{AllocError, Global};
 
 /// How many bits a value of the kind has.
-pub(crate) fn width(kind: &Kind) -> u32
+pub fn width(kind: &Kind) -> u32
     requires kind { IsKind kind.now }
     requires narrow { IsNarrow kind.now }
     requires bits { counted_bits kind.now ≤ 1048576 }
