@@ -1,5 +1,5 @@
 -- Lemmas of the run: from the calls on the desk to what the run means.
-use Rattle.std.proofs.Common.{◌≡◌, ◌<◌, ◌≤◌, ℕ, List, [], ◌++◌, ◌⊎◌, inl, inr, length, take, Option, Some, None, IfSome, IsSome, IsSomeAnd, refl, sym, ap, subst, ◌∙◌, arith}
+use Rattle.std.proofs.Common.{◌≡◌, ◌<◌, ◌≤◌, ℕ, List, [], ◌++◌, ◌⊎◌, inl, inr, length, take, Option, Some, None, IfSome, IsSome, IsSomeAnd, refl, sym, ap, subst, ◌∙◌}
 use Rattle.std.specs.Option.{option_map, option_and_then}
 use Rattle.std.proofs.lemmas.List.{append-nil}
 use Rattle.desk.specs.declared.outside.Asked.TheVariants as asked
@@ -11,8 +11,8 @@ use Rattle.desk.specs.Texts.{TakesAll, Takes, TakesUpTo}
 use Rattle.desk.specs.Causes.{Faults, Rose}
 use Rattle.solve_top.specs.declared.solving.Status.{Status}
 use Rattle.solve_top.specs.declared.solving.Status.TheVariants as status
-use Rattle.solve_top.specs.Answers.{IsAnsweredBy, NotFirstForm}
-use Rattle.solve_top.specs.Endings.{EndsText, usage_line, read_fault_line, memory_lines, not_first_form_line}
+use Rattle.solve_top.specs.Texts.{IsAnsweredBy, IsRefusedBy, too_long_line}
+use Rattle.solve_top.specs.Endings.{EndsText, usage_line, read_fault_line, memory_lines}
 use Rattle.solve_top.specs.Run.{Ends, LeavesModel, Causes, Reads, RefusesWords, Begins, PrintsFront, PrintsAll, Prints, IsCutShort, RunMeans}
 
 -- ---- the text and the file
@@ -33,7 +33,7 @@ of_file P name text (Some find) there same p = some_and P text (find name) there
 ends_of : (name text : List ℕ) (old : State) (before now : ℕ) (s : Status) (out : List ℕ) → now ≡ before
     → IfSome old.files (λ find. IsSome (find name)) → IfSome (file name old) (λ xs. text ≡ xs) → EndsText text s out → Ends name old before now s out
 ends_of name text old before now status.Done out quiet there same e = (quiet, of_file (λ xs. IsAnsweredBy xs out) name text old.files there same e)
-ends_of name text old before now status.File out quiet there same e = (quiet, of_file NotFirstForm name text old.files there same e.0, e.1)
+ends_of name text old before now status.File out quiet there same e = (quiet, of_file (λ xs. IsRefusedBy xs out) name text old.files there same e)
 ends_of name text old before now status.Words out quiet there same e = absurd e
 ends_of name text old before now status.ReadFault out quiet there same e = absurd e
 ends_of name text old before now status.WriteFault out quiet there same e = absurd e
@@ -89,26 +89,26 @@ pub has_no_memory : (name : List ℕ) (most : ℕ) (old mid new : State) (f g : 
 has_no_memory name most old mid new f g begins takes same =
     record { leaves = leaves_read name takes.0 old mid new begins takes.2.state; ends = (ap (λ z. z.reads) same, refl); causes = same }
 
--- a text that is too long is not of the first form
-long_is_not : (text : List ℕ) → 67108865 ≤ length text → NotFirstForm text
-long_is_not text long p form = omega (arith, form.short)
+-- a text that is too long
+long_is_refused : (text : List ℕ) → 67108865 ≤ length text → IsRefusedBy text too_long_line
+long_is_refused text long = inl (record { long = long; line = refl })
 
 long_file : (name : List ℕ) (files : Option (List ℕ → Option (List ℕ))) → IfSome files (λ find. IsSome (find name))
-    → IfSome (option_and_then (λ find. find name) files) (λ xs. 67108865 ≤ length xs) → IfSome files (λ find. IsSomeAnd (find name) NotFirstForm)
+    → IfSome (option_and_then (λ find. find name) files) (λ xs. 67108865 ≤ length xs) → IfSome files (λ find. IsSomeAnd (find name) (λ xs. IsRefusedBy xs too_long_line))
 long_file name None there long = tt
 long_file name (Some find) there long = at (find name) there long
   where
-    at : (found : Option (List ℕ)) → IsSome found → IfSome found (λ xs. 67108865 ≤ length xs) → IsSomeAnd found NotFirstForm
+    at : (found : Option (List ℕ)) → IsSome found → IfSome found (λ xs. 67108865 ≤ length xs) → IsSomeAnd found (λ xs. IsRefusedBy xs too_long_line)
     at None there long = cc
-    at (Some xs) there long = long_is_not xs long
+    at (Some xs) there long = long_is_refused xs long
 
 pub is_too_long : (name : List ℕ) (old mid new : State) (f g : Faults) → BeginsRead slot.Model name old mid → Takes slot.Model 67108865 mid new
-    → g ≡ f → Reads name old new f g status.File not_first_form_line
+    → g ≡ f → Reads name old new f g status.File too_long_line
 is_too_long name old mid new f g begins takes same =
     let P : State → Type 0 = λ z. IfSome z.model.left (λ xs. 67108865 ≤ length xs) in
     record {
       leaves = leaves_read name 67108865 old mid new begins takes.state;
-      ends = (ap (λ z. z.reads) same, long_file name old.files begins.found (subst P begins.state takes.there), refl);
+      ends = (ap (λ z. z.reads) same, long_file name old.files begins.found (subst P begins.state takes.there));
       causes = same;
     }
 

@@ -1,3 +1,4 @@
 pub mod Choices
 pub mod Files
 pub mod OneAnswer
+pub mod Capped

@@ -4,7 +4,6 @@ use Rattle.std.specs.List.{flat_map}
 use Rattle.set_meaning.specs.declared.kinds.Value.{Value}
 use Rattle.set_meaning.specs.declared.problems.Problem.{Problem}
 use Rattle.set_meaning.specs.Solutions.{AreAnswers, CoverAll}
-use Rattle.first_form.specs.FirstForm.{IsFirstForm}
 use Rattle.fzn_printer.specs.Block.{block}
 
 -- the line that says that there is no solution
@@ -25,11 +24,3 @@ pub record IsUnsatisfiable (p : Problem) (out : List ℕ) : Type 0 where
 -- what is printed for a problem whose search ended
 abbrev pub IsOutText : Problem → List ℕ → Type 0
 IsOutText p out = ((answers : List (List Value)) × IsAnswered p answers out) ⊎ IsUnsatisfiable p out
-
--- the text is of the first form, and the bytes answer its problem
-abbrev pub IsAnsweredBy : List ℕ → List ℕ → Type 0
-IsAnsweredBy text out = (p : Problem) × (IsFirstForm text p × IsOutText p out)
-
--- no problem is that of the text
-abbrev pub NotFirstForm : List ℕ → Type 0
-NotFirstForm text = (p : Problem) → IsFirstForm text p → ⊥

@@ -3,3 +3,5 @@ pub mod Answers
 pub mod Words
 pub mod Endings
 pub mod Run
+pub mod Small
+pub mod Texts

@@ -10,8 +10,8 @@ use Rattle.desk.specs.Causes.{Faults, Rose}
 use Rattle.desk.specs.Texts.{WritesFront}
 use Rattle.solve_top.specs.declared.solving.Status.{Status}
 use Rattle.solve_top.specs.declared.solving.Status.TheVariants as status
-use Rattle.solve_top.specs.Answers.{IsAnsweredBy, NotFirstForm}
-use Rattle.solve_top.specs.Endings.{usage_line, not_first_form_line, read_fault_line, memory_lines}
+use Rattle.solve_top.specs.Texts.{IsAnsweredBy, IsRefusedBy}
+use Rattle.solve_top.specs.Endings.{usage_line, read_fault_line, memory_lines}
 
 -- ---- the outside
 
@@ -46,7 +46,7 @@ Causes status.Memory f g = g ≡ f
 -- before the run and after it.
 abbrev pub Ends : List ℕ → State → ℕ → ℕ → Status → List ℕ → Type 0
 Ends name old before now status.Done out = (now ≡ before) × OfFile name old (λ text. IsAnsweredBy text out)
-Ends name old before now status.File out = (now ≡ before) × OfFile name old NotFirstForm × (out ≡ not_first_form_line)
+Ends name old before now status.File out = (now ≡ before) × OfFile name old (λ text. IsRefusedBy text out)
 Ends name old before now status.ReadFault out = Rose before now × (out ≡ read_fault_line)
 Ends name old before now status.Memory out = (now ≡ before) × (out ≡ memory_lines)
 Ends name old before now _ out = ⊥

@@ -1,13 +1,18 @@
 //! How a run can end, with its status and what it prints last.
 
-ghost use Rattle.std.specs.Prelude.{◌≡◌, IfOk};
+ghost use Rattle.std.specs.Prelude.{◌≡◌, ◌↔◌, ◌⊎◌, ◌≤◌, IsTrue, length, IfOk};
 ghost use Rattle.set_meaning.specs.Solutions.{IsSolution, HasNoSolution};
+ghost use Rattle.fzn_model.specs.declared.faults.FileFault.TheVariants as faults;
+ghost use Rattle.fzn_model.specs.Files.{IsProblemOf, IsFaultOf};
+ghost use Rattle.fzn_model.specs.Printed.{StandsIn};
 ghost use Rattle.solve_top.specs.Answers.{IsOutText};
-ghost use Rattle.solve_top.specs.Endings.{ending_status, ending_text, EndsProblem, EndsText};
+ghost use Rattle.solve_top.specs.Texts.{text_limit};
+ghost use Rattle.solve_top.specs.Endings.{ending_status, ending_text, EndsText};
 
 use crate::enumeration::first_solution;
+use crate::small::is_small;
 use crate::solving::Status;
-use first_form::{FirstFault, read_first};
+use fzn_model::{FileFault, fault_line, read_problem};
 use fzn_printer::{UNSATISFIABLE, block};
 use set_meaning::{Problem, Value};
 use std::alloc::{AllocError, Global};
@@ -17,7 +22,12 @@ use std::alloc::{AllocError, Global};
 pub enum Ending {
     /// These bytes answer the model.
     Answered(Vec<u8>),
-    NotFirstForm,
+    /// The text of the model is too long.
+    TooLong,
+    /// The line for the first fault of the text.
+    Faulty(Vec<u8>),
+    /// The problem is not small enough to try every assignment.
+    NotBuilt,
     Words,
     ReadFault,
     Memory,
@@ -30,7 +40,9 @@ impl Ending {
     {
         match self {
             Ending::Answered(_) => Status::Done,
-            Ending::NotFirstForm => Status::File,
+            Ending::TooLong => Status::File,
+            Ending::Faulty(_) => Status::File,
+            Ending::NotBuilt => Status::File,
             Ending::Words => Status::Words,
             Ending::ReadFault => Status::ReadFault,
             Ending::Memory => Status::Memory,
@@ -43,7 +55,9 @@ impl Ending {
     {
         match self {
             Ending::Answered(bytes) => bytes.as_slice(),
-            Ending::NotFirstForm => b"% error: not of the first form\n",
+            Ending::TooLong => b"% error: text too long\n",
+            Ending::Faulty(line) => line.as_slice(),
+            Ending::NotBuilt => b"% error: not built yet\n",
             Ending::Words => b"% usage: setsolve MODEL\n",
             Ending::ReadFault => b"% read fault\n",
             Ending::Memory => b"=====UNKNOWN=====\n% memory\n",
@@ -53,19 +67,51 @@ impl Ending {
 
 /// Reads the text of a model and answers it.
 pub fn ending_of_text(alloc: Global, text: &[u8]) -> Ending
+    requires { length text.now ≤ text_limit }
     ensures { EndsText text.now (ending_status result) (ending_text result) }
 {
-    match read_first(alloc, text) {
-        Ok(problem) => ending_of_problem(alloc, &problem),
-        Err(FirstFault::NotFirstForm) => Ending::NotFirstForm,
-        Err(FirstFault::Memory) => Ending::Memory,
+    match read_problem(alloc, text) {
+        Ok(problem) => ending_of_problem(alloc, text, &problem),
+        Err(fault) => ending_of_fault(alloc, text, &fault),
     }
 }
 
-/// Answers a problem.
-fn ending_of_problem(alloc: Global, p: &Problem) -> Ending
-    ensures { EndsProblem p.now (ending_status result) (ending_text result) }
+/// Tells the fault of a text.
+fn ending_of_fault(alloc: Global, text: &[u8], fault: &FileFault) -> Ending
+    requires short { length text.now ≤ text_limit }
+    requires fault { (fault.now ≡ faults.Memory) ⊎ IsFaultOf text.now fault.now }
+    requires place { (fault.now ≡ faults.Memory) ⊎ StandsIn text.now fault.now }
+    ensures { EndsText text.now (ending_status result) (ending_text result) }
 {
+    if is_memory(fault) {
+        return Ending::Memory;
+    }
+    match fault_line(alloc, text, fault) {
+        Ok(line) => Ending::Faulty(line),
+        Err(AllocError) => Ending::Memory,
+    }
+}
+
+fn is_memory(fault: &FileFault) -> bool
+    ensures { IsTrue result ↔ (fault.now ≡ faults.Memory) }
+{
+    match fault {
+        FileFault::Lex(_) => false,
+        FileFault::Syntax(_) => false,
+        FileFault::Model(_) => false,
+        FileFault::Memory => true,
+    }
+}
+
+/// Answers the problem of a text, where it is small.
+fn ending_of_problem(alloc: Global, text: &[u8], p: &Problem) -> Ending
+    requires { IsProblemOf text.now p.now }
+    ensures { EndsText text.now (ending_status result) (ending_text result) }
+{
+    let _ = text;
+    if !is_small(p) {
+        return Ending::NotBuilt;
+    }
     match answer(alloc, p) {
         Ok(bytes) => Ending::Answered(bytes),
         Err(AllocError) => Ending::Memory,

@@ -3,6 +3,7 @@
 
 mod ending;
 mod enumeration;
+mod small;
 mod solving;
 #[cfg(test)]
 mod tests;

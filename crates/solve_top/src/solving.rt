@@ -7,8 +7,10 @@ ghost use Rattle.solve_top.specs.Endings.{ending_status, ending_text};
 
 use crate::ending::{Ending, ending_of_text};
 use desk::{Desk, Failed, ReadEnd, Slot, To, read_text, write_text};
-use first_form::limits::TEXT_LIMIT;
 use std::alloc::Global;
+
+/// The most bytes of a model's text.
+const TEXT_LIMIT: usize = 67_108_864;
 
 /// How a run of `setsolve` ended.
 #[derive(Clone, Copy, Debug, PartialEq, Eq)]
@@ -17,7 +19,8 @@ pub enum Status {
     Done = 0,
     /// The words are not the name of one model. The usage line was printed.
     Words = 2,
-    /// The text of the model is longer than 67,108,864 bytes or not of the first form, as was printed.
+    /// The text of the model is longer than 67,108,864 bytes, or it has a fault, whose line was printed, or its problem is not
+    /// solved yet, as was printed.
     File = 3,
     /// The model could not be read, as was printed: the count of failed reads rose.
     ReadFault = 4,
@@ -48,9 +51,10 @@ pub struct Report {
 /// Runs `setsolve` on `words`, those after the program's name: they are to be the name of one model's file, which begins
 /// with no `-`. It reads the model through the desk's slot for models, prints to Out, and begins no log.
 ///
-/// Printed is the block of the first solution, the first variable slowest and sets with an element before those without,
-/// or `=====UNSATISFIABLE=====`. At most 65,536 assignments are tried. Want of memory can take the place of every other
-/// status but `Words` and `WriteFault`.
+/// Printed is the block of the first solution, the first variable slowest, false before true, integers ascending, and sets with an
+/// element before those without; or `=====UNSATISFIABLE=====`. Solved are problems whose goal is `satisfy`, with at most 1,000
+/// constraints and 65,536 assignments; every other one is answered `% error: not built yet`. Want of memory can take the place of
+/// every other status but `Words` and `WriteFault`.
 pub fn run<D: Desk>(alloc: Global, words: &[String], desk: &mut D) -> Report
     ensures means { RunMeans (model_of (map string_bytes words.now)) (D.state desk.old) (D.state desk.new) (D.faults desk.old) (D.faults desk.new) result.status }
     ensures causes { Causes result.status (D.faults desk.old) (D.faults desk.new) }
@@ -90,7 +94,7 @@ fn read_and_solve<D: Desk>(alloc: Global, desk: &mut D, name: &str) -> Ending
     match read_text(alloc, desk, Slot::Model, TEXT_LIMIT) {
         Ok(text) => ending_of_text(alloc, text.as_slice()),
         Err(ReadEnd::Failed) => Ending::ReadFault,
-        Err(ReadEnd::TooLong) => Ending::NotFirstForm,
+        Err(ReadEnd::TooLong) => Ending::TooLong,
         Err(ReadEnd::Memory) => Ending::Memory,
     }
 }

@@ -1,4 +1,0 @@
-pub mod Digits
-pub mod Longest
-pub mod Fronts
-pub mod Scans
