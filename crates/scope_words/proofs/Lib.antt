@@ -1,0 +1,5 @@
+pub mod Bits
+pub mod Words
+pub mod PlaceLists
+pub mod Decoding
+pub mod Samples
