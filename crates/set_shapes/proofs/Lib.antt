@@ -1,0 +1,11 @@
+pub mod Numbers
+pub mod PassedTests
+pub mod Linking
+pub mod Sides
+pub mod Scopes
+pub mod Accepting
+pub mod SetOrders
+pub mod Fitting
+pub mod Existing
+pub mod Ends
+pub mod Samples

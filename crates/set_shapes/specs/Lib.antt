@@ -1,0 +1,6 @@
+pub mod Operands
+pub mod Tests
+pub mod Orders
+pub mod ProgressEquality
+pub mod Tables
+pub mod Shapes
