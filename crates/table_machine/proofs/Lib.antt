@@ -1,0 +1,10 @@
+mod Numbers
+mod Branches
+mod Steps
+mod Runs
+mod Domains
+mod Scopes
+mod ValueWords
+mod Fitting
+mod MarkedWords
+mod Samples

@@ -1,0 +1,13 @@
+use Rattle.std.proofs.Common.{◌∙◌, ap}
+use Rattle.set_meaning.specs.declared.kinds.Kind.TheVariants as kind
+use Rattle.set_meaning.specs.Sets.{ascending_set}
+use Rattle.table_machine.proofs.Samples.{sample_within}
+use Rattle.table_machine.proofs.tests.kinds.Goals as goal
+
+pub returns-clause-limits : goal.returns-clause-limits
+returns-clause-limits c =
+    sample_within c.in_ok-kinds.kinds.items c.in_ok-odd.odd c.in_ok-with_holes.with_holes c.in_ok-seven.seven c.in_ok-to_four.to_four c.in_ok-kinds.ensures.items
+    (c.in_ok-odd.ensures ∙ ap (λ xs. kind.Set (ascending_set xs)) c.as_slice.ensures)
+    (c.in_ok-with_holes.ensures ∙ ap (λ xs. kind.Int (ascending_set xs)) c.as_slice-2.ensures)
+    (c.in_ok-seven.ensures ∙ ap (λ xs. kind.Int (ascending_set xs)) c.as_slice-3.ensures)
+    (c.in_ok-to_four.ensures ∙ ap (λ xs. kind.Int (ascending_set xs)) c.as_slice-4.ensures)

@@ -1,0 +1,5 @@
+pub mod Tables
+pub mod Comparisons
+pub mod Values
+pub mod Laws
+pub mod Marked
