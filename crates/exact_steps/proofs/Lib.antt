@@ -1,0 +1,9 @@
+pub mod Values
+pub mod Readings
+pub mod Sets
+pub mod Wanted
+pub mod Changes
+pub mod Ending
+pub mod Constraints
+pub mod Samples
+pub mod Replacing

@@ -1,0 +1,5 @@
+use Rattle.exact_steps.specs.Work.{IsProjecting}
+use Rattle.exact_steps.proofs.projecting.projected.Given as goal
+
+abbrev pub invariant-loop-v : goal.invariant-loop-v
+invariant-loop-v l = IsProjecting l.layout l.scope l.join l.domains l.initial.ops l.v-index l.ops l.kept.items
