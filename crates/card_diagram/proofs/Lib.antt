@@ -1,0 +1,4 @@
+mod Cards
+mod Ends
+mod Samples
+mod Words
