@@ -1,0 +1,5 @@
+use Rattle.scope_words.proofs.Bits.{bits_from}
+use Rattle.int_channel.proofs.members.bits_of.Goals as goal
+
+pub returns : goal.returns
+returns c = bits_from _ _ _ c.bits_of.ensures.long c.bits_of.ensures.each

@@ -1,0 +1,5 @@
+pub mod Choices
+pub mod Forms
+pub mod Machines
+pub mod Shapes
+pub mod SumTables
