@@ -1,0 +1,4 @@
+pub mod Variables
+pub mod Solutions
+pub mod Covered
+pub mod Starting

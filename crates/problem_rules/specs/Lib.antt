@@ -1,0 +1,5 @@
+pub mod Branching
+pub mod Parts
+pub mod Readings
+pub mod Posing
+pub mod Posed
