@@ -61,7 +61,7 @@ fn push_dim(out: &mut Vec<u8>, dim: &Dim) -> Result<(), AllocError>
 }
 
 /// Appends `L..H`.
-fn push_range(out: &mut Vec<u8>, lo: i64, hi: i64) -> Result<(), AllocError>
+pub(crate) fn push_range(out: &mut Vec<u8>, lo: i64, hi: i64) -> Result<(), AllocError>
     ensures { OnOk result (out.new.items ≡ out.old.items ++ range_text lo hi) }
 {
     push_integer(out, lo)?;

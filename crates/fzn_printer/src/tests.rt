@@ -1,7 +1,7 @@
 // Blocks against texts worked out by hand.
 use super::*;
 use listed::Listed;
-use set_meaning::{Dim, Goal, Kind, Problem, SetValue, Shown, Term, Text, Value, VarId};
+use set_meaning::{Bounds, Dim, Goal, Kind, Problem, SetValue, Shown, Term, Text, Value, VarId};
 use std::alloc::{AllocError, Global};
 use std::test::Fail;
 
@@ -132,5 +132,46 @@ fn lines_are_those_of_the_format(rt: HostRuntime) -> Result<(), Fail> {
     assert_eq!(rt; COMPLETE, "==========\n".as_bytes());
     assert_eq!(rt; UNSATISFIABLE, "=====UNSATISFIABLE=====\n".as_bytes());
     assert_eq!(rt; UNKNOWN, "=====UNKNOWN=====\n".as_bytes());
+    Ok(())
+}
+
+/// The text of a name.
+fn name_of(alloc: Global, name: &str) -> Result<Text, AllocError> {
+    Ok(Listed::of(Vec::from_slice(alloc, name.as_bytes())?))
+}
+
+/// The bounds of a set variable.
+fn set_bounds(alloc: Global, every: &[i64], some: &[i64]) -> Result<Bounds, AllocError> {
+    let every = SetValue::from_list(alloc, every)?;
+    let some = SetValue::from_list(alloc, some)?;
+    Ok(Bounds::Set(every, some))
+}
+
+#[test]
+fn root_lines_are_printed(rt: HostRuntime) -> Result<(), Fail> {
+    let alloc = rt.alloc();
+    let name = name_of(alloc, "x")?;
+    let line = root_line(alloc, &name, &set_bounds(alloc, &[], &[1, 2, 3])?, 5)?;
+    assert_eq!(rt;
+        line.as_slice(),
+        b"% root x {}..{1,2,3} nodes 5\n".as_slice()
+    );
+    let name = name_of(alloc, "n")?;
+    let line = root_line(alloc, &name, &Bounds::Int(0, 3), 3)?;
+    assert_eq!(rt; line.as_slice(), b"% root n 0..3 nodes 3\n".as_slice());
+    let name = name_of(alloc, "a")?;
+    let line = root_line(alloc, &name, &Bounds::Int(1, 2), 5)?;
+    assert_eq!(rt; line.as_slice(), b"% root a 1..2 nodes 5\n".as_slice());
+    let name = name_of(alloc, "_b1")?;
+    let line = root_line(
+        alloc,
+        &name,
+        &Bounds::Bool(false, true),
+        18446744073709551615,
+    )?;
+    assert_eq!(rt;
+        line.as_slice(),
+        b"% root _b1 false..true nodes 18446744073709551615\n".as_slice()
+    );
     Ok(())
 }

@@ -2,7 +2,7 @@
 
 ghost use Rattle.std.specs.Prelude.{◌≡◌, ◌++◌, OnOk};
 ghost use Rattle.std.specs.Fmt.{signed_decimal};
-ghost use Rattle.fzn_printer.specs.Block.{term_text, value_text, set_text, elements_text, more_text};
+ghost use Rattle.fzn_printer.specs.Block.{bool_text, term_text, value_text, set_text, elements_text, more_text};
 
 use itoa::Buffer;
 use set_meaning::{Term, Value};
@@ -26,10 +26,19 @@ fn push_value(out: &mut Vec<u8>, value: &Value) -> Result<(), AllocError>
     ensures { OnOk result (out.new.items ≡ out.old.items ++ value_text value.now) }
 {
     match value {
-        Value::Bool(true) => out.extend_from_slice(b"true"),
-        Value::Bool(false) => out.extend_from_slice(b"false"),
+        Value::Bool(truth) => push_bool(out, *truth),
         Value::Int(number) => push_integer(out, *number),
         Value::Set(set) => push_set(out, set.elements()),
+    }
+}
+
+/// Appends a Boolean.
+pub(crate) fn push_bool(out: &mut Vec<u8>, truth: bool) -> Result<(), AllocError>
+    ensures { OnOk result (out.new.items ≡ out.old.items ++ bool_text truth) }
+{
+    match truth {
+        true => out.extend_from_slice(b"true"),
+        false => out.extend_from_slice(b"false"),
     }
 }
 
