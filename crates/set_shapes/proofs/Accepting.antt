@@ -32,11 +32,11 @@ use Rattle.bit_layout.specs.declared.places.Place.{Place}
 use Rattle.set_shapes.specs.declared.operands.Operands.{Operands}
 use Rattle.set_shapes.specs.declared.tests_of_elements.ElementTest.{ElementTest}
 use Rattle.set_shapes.specs.Tests.{all_pass}
-use Rattle.set_shapes.specs.Operands.{variables_of, universe_of, universe_of_kind, constant_marks}
+use Rattle.set_shapes.specs.Operands.{IsTermOf, variables_of, universe_of, universe_of_kind, constant_marks}
 use Rattle.set_shapes.specs.Tables.{AreSets, IsTable, entry_of, entries_of, marks_in}
 use Rattle.set_shapes.proofs.Numbers.{not_true}
 use Rattle.set_shapes.proofs.PassedTests.{Relates, AreListed, are_passing, relates, all_passing, after-all_pass, after-all_true, in_map, all_from_listed, beq_from}
-use Rattle.set_shapes.proofs.Sides.{IsTermOf, elements_given}
+use Rattle.set_shapes.proofs.Sides.{elements_given}
 use Rattle.set_shapes.proofs.Scopes.{are_terms, variable_kind, universe_listed, scope_sets, listed_elements, entries_grouped}
 use Rattle.bit_layout.proofs.Rising.{in_head, in_tail}
 
@@ -75,7 +75,7 @@ set_in_kind u (value.Bool b) h = absurd h
 set_in_kind u (value.Int n) h = absurd h
 set_in_kind u (value.Set s) h = (s, refl, h)
 
-term_set : (l : LayoutState) (scope : List VarId) (values : List Value) (w : Word) (t : Term) → Gives l scope values w → IsTermOf scope t → HasSort l.kinds IntegerSet t → HasSet l.kinds values t
+pub term_set : (l : LayoutState) (scope : List VarId) (values : List Value) (w : Word) (t : Term) → Gives l scope values w → IsTermOf scope t → HasSort l.kinds IntegerSet t → HasSet l.kinds values t
 unfolding IsSubset Has
 term_set l scope values w (Const (value.Bool b)) given mine sort = absurd sort
 term_set l scope values w (Const (value.Int n)) given mine sort = absurd sort
@@ -149,7 +149,7 @@ pub table_long : (l : LayoutState) (o : Operands) (bits : List ℕ) (constants :
 table_long l o bits constants entries table =
     ap length table.are_entries ∙ length-entries o table.elements table.places ∙ sym (all_zip_long (λ bit p. slice_get l.places bit ≡ Some p) bits table.places table.are_places)
 
-given_word : {Q : Type 0} (l : LayoutState) (o : Operands) (bits : List ℕ) (constants : List Marks) (entries : List Entry) (rules : ElementRules Q) (w : Word) (values : List Value) → IsLayout l → AreSets l.kinds o
+pub given_word : {Q : Type 0} (l : LayoutState) (o : Operands) (bits : List ℕ) (constants : List Marks) (entries : List Entry) (rules : ElementRules Q) (w : Word) (values : List Value) → IsLayout l → AreSets l.kinds o
     → (table : IsTable l o bits constants entries) → Gives l (variables_of o) values w → IsGiven l o table.elements values rules (accepts (by_elements rules constants entries) bits w)
 unfolding Has
 given_word l o bits constants entries rules w values ok sets table given =

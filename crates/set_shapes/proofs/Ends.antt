@@ -29,7 +29,7 @@ use Rattle.element_machine.specs.Reading.{AreGrouped, by_elements}
 use Rattle.set_shapes.specs.declared.operands.Operands.{Operands}
 use Rattle.set_shapes.specs.Operands.{operands_of, variables_of, constant_marks}
 use Rattle.set_shapes.specs.Tables.{AreSets, IsTable, entries_of, all_elements}
-use Rattle.set_shapes.specs.Shapes.{is_shape, machine_of, accepted_by}
+use Rattle.set_shapes.specs.Shapes.{is_between_sets, machine_of, accepted_by}
 use Rattle.set_shapes.specs.declared.machines.SetMachine.{SetMachine}
 use Rattle.set_shapes.proofs.Scopes.{listed_elements, places_listed, scope_known}
 use Rattle.set_shapes.proofs.Accepting.{table_grouped}
@@ -65,7 +65,7 @@ table_made l kinds o elements first second variables slice bits bits' ps ps' con
 own_shapes : (l : LayoutState) (kinds : List Kind) (relation : Relation) (args : List Arg) → l.kinds ≡ kinds → AllZip (HasShape kinds) (shapes_of (row_of relation)) args → AllZip (HasShape l.kinds) (shapes_of (row_of relation)) args
 own_shapes l kinds relation args same zip = subst (λ ks. AllZip (HasShape ks) (shapes_of (row_of relation)) args) (sym same) zip
 
-pub sets_for : (l : LayoutState) (kinds kinds' : List Kind) (relation : Relation) (args args' : List Arg) → IsLayout l → l.kinds ≡ kinds → kinds' ≡ kinds → args' ≡ args → is_shape relation ≡ true
+pub sets_for : (l : LayoutState) (kinds kinds' : List Kind) (relation : Relation) (args args' : List Arg) → IsLayout l → l.kinds ≡ kinds → kinds' ≡ kinds → args' ≡ args → is_between_sets relation ≡ true
     → AllZip (HasShape kinds) (shapes_of (row_of relation)) args → AreSets kinds' (operands_of args')
 sets_for l kinds kinds' relation args args' ok same e f shape zip =
     let own : AreSets l.kinds (operands_of args) = (fits l relation args ok shape (own_shapes l kinds relation args same zip)).sets in
@@ -86,20 +86,20 @@ own_table l relation args bits constants entries fit table = record {
 }
 
 pub shape_table : (l : LayoutState) (kinds : List Kind) (relation : Relation) (args args' : List Arg) (machine : SetMachine) (bits : List ℕ) (constants : List Marks) (entries : List Entry) → IsLayout l → l.kinds ≡ kinds → args' ≡ args
-    → machine ≡ machine_of relation → is_shape relation ≡ true → AllZip (HasShape kinds) (shapes_of (row_of relation)) args → IsTable l (operands_of args') bits constants entries
+    → machine ≡ machine_of relation → is_between_sets relation ≡ true → AllZip (HasShape kinds) (shapes_of (row_of relation)) args → IsTable l (operands_of args') bits constants entries
     → IsShapeTable l relation args bits (accepted_by machine constants entries bits)
 shape_table l kinds relation args args' machine bits constants entries ok same f is shape zip table =
     subst (λ m. IsShapeTable l relation args bits (accepted_by m constants entries bits)) (sym is)
     (own_table l relation args bits constants entries (fits l relation args ok shape (own_shapes l kinds relation args same zip)) (subst (λ xs. IsTable l (operands_of xs) bits constants entries) f table))
 
 pub grouped_for : (l : LayoutState) (kinds : List Kind) (relation : Relation) (args args' : List Arg) (bits : List ℕ) (constants : List Marks) (entries : List Entry) → IsLayout l → l.kinds ≡ kinds → args' ≡ args
-    → is_shape relation ≡ true → AllZip (HasShape kinds) (shapes_of (row_of relation)) args → IsTable l (operands_of args') bits constants entries → AreGrouped (length constants) entries
+    → is_between_sets relation ≡ true → AllZip (HasShape kinds) (shapes_of (row_of relation)) args → IsTable l (operands_of args') bits constants entries → AreGrouped (length constants) entries
 grouped_for l kinds relation args args' bits constants entries ok same f shape zip table =
     let fit = fits l relation args ok shape (own_shapes l kinds relation args same zip) in
     table_grouped l (operands_of args) bits constants entries ok fit.sets (subst (λ xs. IsTable l (operands_of xs) bits constants entries) f table)
 
 -- there is such a set, whether or not its table could be made
-pub shape_there : (l : LayoutState) (kinds : List Kind) (relation : Relation) (args : List Arg) → IsLayout l → l.kinds ≡ kinds → is_shape relation ≡ true → AllZip (HasShape kinds) (shapes_of (row_of relation)) args
+pub shape_there : (l : LayoutState) (kinds : List Kind) (relation : Relation) (args : List Arg) → IsLayout l → l.kinds ≡ kinds → is_between_sets relation ≡ true → AllZip (HasShape kinds) (shapes_of (row_of relation)) args
     → (V : Words) × AreWordsOf l (variables_in args) (HoldsOf relation args) V
 shape_there l kinds relation args ok same shape zip =
     let fit = fits l relation args ok shape (own_shapes l kinds relation args same zip) in
@@ -130,21 +130,3 @@ pub parts_lent : {Q : Type 0} (old new : Table) (rules : ElementRules Q) (c c' :
 parts_lent old new rules c c' e e' b b' p q r h =
     let P : Words → Type 0 = λ V. NewArePartsOf old new V in
     subst P (λ i. accepts (by_elements rules (p i) (q i)) (r i)) h
-
--- ---- a constraint whose bits are counted
-
-pub known_for : (l : LayoutState) (kinds : List Kind) (relation : Relation) (args args' : List Arg) (variables slice : List VarId) → IsLayout l → l.kinds ≡ kinds → args' ≡ args → is_shape relation ≡ true → AllZip (HasShape kinds) (shapes_of (row_of relation)) args
-    → variables ≡ variables_of (operands_of args') → slice ≡ variables → All (λ v. v.0 < length l.kinds) slice
-known_for l kinds relation args args' variables slice ok same f shape zip e g =
-    let fit = fits l relation args ok shape (own_shapes l kinds relation args same zip) in
-    let are : slice ≡ variables_of (operands_of args) = g ∙ e ∙ ap (λ xs. variables_of (operands_of xs)) f in
-    subst (λ vs. All (λ (v : VarId). v.0 < length l.kinds) vs) (sym are) (scope_known l (operands_of args) fit.sets)
-
-pub narrow_for : (l : LayoutState) (kinds : List Kind) (relation : Relation) (args args' : List Arg) (variables slice : List VarId) (bits others : List ℕ) → IsLayout l → l.kinds ≡ kinds → args' ≡ args → is_shape relation ≡ true
-    → AllZip (HasShape kinds) (shapes_of (row_of relation)) args → variables ≡ variables_of (operands_of args') → slice ≡ variables → AreBitsOf l slice bits → length bits ≤ most_bits → AreBitsOf l (variables_in args) others → length others ≤ most_bits
-narrow_for l kinds relation args args' variables slice bits others ok same f shape zip e g are few theirs =
-    let fit = fits l relation args ok shape (own_shapes l kinds relation args same zip) in
-    let scope : slice ≡ variables_in args = g ∙ e ∙ ap (λ xs. variables_of (operands_of xs)) f ∙ fit.scope in
-    let one : bits ≡ others = bits_once l (variables_in args) bits others (subst (λ vs. AreBitsOf l vs bits) scope are) theirs in
-    let long : length bits ≡ length others = ap length one in
-    omega (arith, long, few)

@@ -30,7 +30,7 @@ use Rattle.set_shapes.specs.Tests.{all_pass}
 use Rattle.set_shapes.specs.Orders.{compared, in_order}
 use Rattle.set_shapes.specs.Operands.{operands_of, variables_of}
 use Rattle.set_shapes.specs.Tables.{AreSets, IsTable}
-use Rattle.set_shapes.specs.Shapes.{is_shape, machine_of, accepted_by}
+use Rattle.set_shapes.specs.Shapes.{is_between_sets, machine_of, accepted_by}
 use Rattle.set_shapes.proofs.Accepting.{Wanted, Decides, Satisfy, tests_decide, table_words}
 use Rattle.set_shapes.proofs.SetOrders.{orders_decide}
 
@@ -126,7 +126,7 @@ ordered_two : (l : LayoutState) (relation : Relation) (args : List Arg) (equal :
     → ((a b : Term) (values : List Value) → HoldsOf relation (One a ∷ One b ∷ []) values ≡ OfTwo (in_order equal) (set_of_term values a) (set_of_term values b)) → IsFit l relation args
 ordered_two l relation args equal ok read zip is = fit_two l relation args (compared equal) (λ a b c. in_order equal a b) (in_order equal) ok (orders_decide equal) read zip (λ a b. (λ h. h, λ h. h)) is
 
-pub fits : (l : LayoutState) (relation : Relation) (args : List Arg) → IsLayout l → is_shape relation ≡ true → AllZip (HasShape l.kinds) (shapes_of (row_of relation)) args → IsFit l relation args
+pub fits : (l : LayoutState) (relation : Relation) (args : List Arg) → IsLayout l → is_between_sets relation ≡ true → AllZip (HasShape l.kinds) (shapes_of (row_of relation)) args → IsFit l relation args
 unfolding HoldsOf
 fits l SetEq args ok shape zip = tested_two l SetEq args Equal true (λ a b. a ≡ b) ok (λ c e b. refl) zip (λ a b. (λ h. h, λ h. h)) (λ a b values. refl)
 fits l SetNe args ok shape zip = tested_two l SetNe args Equal false (λ a b. a ≡ b → ⊥) ok (λ c e b. refl) zip (λ a b. (λ h. h, λ h. h)) (λ a b values. refl)

@@ -9,3 +9,11 @@ pub mod Fitting
 pub mod Existing
 pub mod Ends
 pub mod Samples
+pub mod PassedBits
+pub mod OneBranch
+pub mod AllBranches
+pub mod KnownVariables
+pub mod ElementDecided
+pub mod ElementWords
+pub mod ElementEnds
+pub mod LostEqualities

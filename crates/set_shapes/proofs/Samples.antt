@@ -11,6 +11,7 @@ use Rattle.set_meaning.specs.declared.kinds.Kind.{Kind}
 use Rattle.set_meaning.specs.declared.kinds.Kind.TheVariants as kind
 use Rattle.set_meaning.specs.Problems.{IsKind}
 use Rattle.set_meaning.specs.Sets.{IsAscending, IsSetOf, with_element, ascending_set}
+use Rattle.bit_layout.specs.Words.{bit_width}
 use Rattle.bit_layout.specs.Limits.{AreWithinLimits, IsNarrow, counted_bits}
 
 abbrev sample : List Kind
@@ -30,6 +31,27 @@ pub sample_within : (kinds : List Kind) (a b : Kind) → kinds ≡ a ∷ b ∷ [
 sample_within kinds a b are p q =
     let same : kinds ≡ sample = cc in
     subst AreWithinLimits (sym same) record { legal = sample_kinds; narrow = sample_narrow; bits = sample_bits }
+
+-- ---- an index and a set
+
+abbrev index_sample : List Kind
+index_sample = kind.Int (pos 0 ∷ pos 1 ∷ pos 2 ∷ pos 3 ∷ []) ∷ kind.Set (pos 1 ∷ pos 2 ∷ []) ∷ []
+
+index_kinds : All IsKind index_sample
+unfolding IsStrictlySortedBy
+index_kinds = All-from_recursion IsKind index_sample ((((refl, (refl, (refl, tt))), ((refl, (refl, tt)), ((refl, tt), (tt, tt)))), λ e. cc), (((refl, tt), (tt, tt)), tt))
+
+index_narrow : All IsNarrow index_sample
+index_narrow = All-from_recursion IsNarrow index_sample (lit≤ tt, (tt, tt))
+
+index_bits : sum_by counted_bits index_sample ≤ 1048576
+unfolding bit_width
+index_bits = lit≤ tt
+
+pub index_within : (kinds : List Kind) (a b : Kind) → kinds ≡ a ∷ b ∷ [] → a ≡ kind.Int (pos 0 ∷ pos 1 ∷ pos 2 ∷ pos 3 ∷ []) → b ≡ kind.Set (pos 1 ∷ pos 2 ∷ []) → AreWithinLimits kinds
+index_within kinds a b are p q =
+    let same : kinds ≡ index_sample = cc in
+    subst AreWithinLimits (sym same) record { legal = index_kinds; narrow = index_narrow; bits = index_bits }
 
 -- ---- sets of at most three elements
 

@@ -32,11 +32,11 @@ use Rattle.scope_words.proofs.Bits.{place_of_bit}
 use Rattle.scope_words.proofs.PlaceLists.{places_less}
 use Rattle.element_machine.specs.Reading.{AreGrouped}
 use Rattle.set_shapes.specs.declared.operands.Operands.{Operands}
-use Rattle.set_shapes.specs.Operands.{variables_of, universe_of, universe_of_kind}
+use Rattle.set_shapes.specs.Operands.{IsTermOf, variables_of, universe_of, universe_of_kind}
 use Rattle.set_shapes.specs.Tables.{all_elements, number_of, number_at, entries_of, AreSets}
 use Rattle.set_shapes.proofs.Numbers.{number_stands}
 use Rattle.set_shapes.proofs.Linking.{Stand}
-use Rattle.set_shapes.proofs.Sides.{AreElements, IsTermOf, number_is_at}
+use Rattle.set_shapes.proofs.Sides.{AreElements, number_is_at}
 
 -- ---- variables
 
@@ -52,7 +52,7 @@ in_variables (Var z ∷ ts) y h =
       | inr later ↦ in_tail (Var z) ts (Var y) (in_variables ts y later)
     ]
 
-variables_have : (ts : List Term) (t : Term) → Contains ts t → IsTermOf (filter_map variable_of ts) t
+pub variables_have : (ts : List Term) (t : Term) → Contains ts t → IsTermOf (filter_map variable_of ts) t
 variables_have ts (Const v) h = tt
 variables_have [] (Var y) h = absurd (nothing_in_empty (Var y) h)
 variables_have (Const v ∷ ts) (Var y) h =

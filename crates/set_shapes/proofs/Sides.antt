@@ -29,7 +29,7 @@ use Rattle.element_machine.specs.declared.marks.Marks.{Marks}
 use Rattle.element_machine.specs.Rules.{joined}
 use Rattle.element_machine.specs.Reading.{marked, elements_from}
 use Rattle.set_shapes.specs.declared.operands.Operands.{Operands}
-use Rattle.set_shapes.specs.Operands.{constant_has, constant_marks}
+use Rattle.set_shapes.specs.Operands.{IsTermOf, constant_has, constant_marks}
 use Rattle.set_shapes.specs.Tables.{number_of, number_at, entries_of, marks_in}
 use Rattle.set_shapes.proofs.Numbers.{not_true, number_stands, number_is}
 use Rattle.set_shapes.proofs.PassedTests.{same_truth}
@@ -154,11 +154,6 @@ side_of_variable l scope o y side elements bits ps w u s x j ok are mine known s
     marked_whole l o (Var y) side elements bits ps w j r.0 r.1 is stand r.2 r.3 (number_is_at elements r.1 x r.5 ∙ number)
     (eq-eqb y.0 r.1.variable.0 (ap (λ (v : VarId). v.0) (sym r.4)))
     (place_element l y w u s r.0 r.1 x ok set r.3 r.4 r.5 ∙ t))
-
--- a term: a constant, or a variable of the scope
-abbrev pub IsTermOf : List VarId → Term → Type 0
-IsTermOf scope (Const v) = Unit {0}
-IsTermOf scope (Var y) = Contains scope y
 
 pub side_is : (l : LayoutState) (scope : List VarId) (o : Operands) (t : Term) (side : Marks → Bool) (elements : List ℤ) (bits : List ℕ) (ps : List Place) (w : Word) (values : List Value) (s : List ℤ) (x : ℤ) (j : ℕ)
     → IsLayout l → AreBitsOf l scope bits → AreElements elements l bits → Gives l scope values w → IsTermOf scope t → set_of_term values t ≡ Some s → j < length elements → get_or elements j x ≡ x → IsSide o t side → Stand l bits ps

@@ -4,3 +4,5 @@ pub mod Orders
 pub mod ProgressEquality
 pub mod Tables
 pub mod Shapes
+pub mod Passing
+pub mod Elements

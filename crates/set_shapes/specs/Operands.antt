@@ -1,5 +1,5 @@
 -- The two or three sets of a constraint, as terms. This project's own.
-use Rattle.std.specs.Prelude.{Bool, false, ℤ, List, [], ◌∷◌, slice_get, filter_map, ◌==◌}
+use Rattle.std.specs.Prelude.{Bool, false, ℤ, List, [], ◌∷◌, Contains, slice_get, filter_map, ◌==◌}
 use Rattle.std.specs.Option.{option_map_or}
 use Rattle.set_meaning.specs.declared.kinds.Kind.{Kind}
 use Rattle.set_meaning.specs.declared.kinds.Kind.TheVariants as kind
@@ -58,3 +58,8 @@ constant_marks o x = record { first = constant_has o.first x; second = constant_
 
 abbrev pub variable_marks : Operands → VarId → Marks
 variable_marks o v = record { first = is_variable o.first v; second = is_variable o.second v; third = is_variable o.third v }
+
+-- a term: a constant, or a variable of the scope
+abbrev pub IsTermOf : List VarId → Term → Type 0
+IsTermOf scope (Const v) = Unit {0}
+IsTermOf scope (Var y) = Contains scope y

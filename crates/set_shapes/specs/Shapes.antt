@@ -1,9 +1,9 @@
 -- Which relations this crate makes diagrams of, and by which machine. This project's own.
-use Rattle.std.specs.Prelude.{ℕ, Bool, true, false, List}
+use Rattle.std.specs.Prelude.{ℕ, Bool, true, false, ◌||◌, List}
 use Rattle.diagram_arena.specs.Table.{Words}
 use Rattle.bit_machine.specs.Rules.{accepts}
 use Rattle.set_meaning.specs.declared.problems.Relation.{Relation}
-use Rattle.set_meaning.specs.declared.problems.Relation.TheVariants.{SetEq, SetNe, SetLt, SetLe, SetSubset, SetSuperset, SetUnion, SetIntersect, SetDiff, SetSymdiff}
+use Rattle.set_meaning.specs.declared.problems.Relation.TheVariants.{SetEq, SetNe, SetLt, SetLe, SetSubset, SetSuperset, SetUnion, SetIntersect, SetDiff, SetSymdiff, ArraySetElement}
 use Rattle.element_machine.specs.declared.marks.Marks.{Marks}
 use Rattle.element_machine.specs.declared.marks.Entry.{Entry}
 use Rattle.element_machine.specs.Reading.{by_elements}
@@ -15,18 +15,26 @@ use Rattle.set_shapes.specs.Tests.{all_pass}
 use Rattle.set_shapes.specs.Orders.{compared}
 
 -- equality and its negation, the order and the order or equality, subset and superset, and the operations on two sets
+abbrev pub is_between_sets : Relation → Bool
+is_between_sets SetEq = true
+is_between_sets SetNe = true
+is_between_sets SetLt = true
+is_between_sets SetLe = true
+is_between_sets SetSubset = true
+is_between_sets SetSuperset = true
+is_between_sets SetUnion = true
+is_between_sets SetIntersect = true
+is_between_sets SetDiff = true
+is_between_sets SetSymdiff = true
+is_between_sets _ = false
+
+-- an index, an array of sets and the set at that place
+abbrev pub is_element : Relation → Bool
+is_element ArraySetElement = true
+is_element _ = false
+
 abbrev pub is_shape : Relation → Bool
-is_shape SetEq = true
-is_shape SetNe = true
-is_shape SetLt = true
-is_shape SetLe = true
-is_shape SetSubset = true
-is_shape SetSuperset = true
-is_shape SetUnion = true
-is_shape SetIntersect = true
-is_shape SetDiff = true
-is_shape SetSymdiff = true
-is_shape _ = false
+is_shape relation = is_between_sets relation || is_element relation
 
 abbrev pub tested : ElementTest → Bool → SetMachine
 tested test wanted = Tested (record { test = test; wanted = wanted })

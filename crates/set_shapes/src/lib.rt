@@ -5,17 +5,23 @@
 //! `diagram` of `set_shape`.
 #![tactic(auto)]
 
+mod branches;
+mod element_relation;
 mod machines;
 mod operands;
 mod orders;
+mod passing;
 mod progress;
 mod shapes;
 mod tables;
 mod tests_of_elements;
+mod variables;
 
 pub use machines::is_set_shape;
 pub use shapes::set_shape;
 
+#[cfg(test)]
+mod array_items;
 #[cfg(test)]
 mod small_universes;
 #[cfg(test)]

@@ -1,6 +1,6 @@
 //! The machine of elements for each relation.
 ghost use Rattle.std.specs.Prelude.{◌≡◌, true};
-ghost use Rattle.set_shapes.specs.Shapes.{is_shape, machine_of, tested, ordered};
+ghost use Rattle.set_shapes.specs.Shapes.{is_between_sets, is_element, is_shape, machine_of, tested, ordered};
 
 use crate::orders::InOrder;
 use crate::tests_of_elements::{AllPass, ElementTest};
@@ -16,9 +16,16 @@ pub(crate) enum SetMachine {
 }
 
 /// Whether `set_shape` makes the diagram of the relation: equality of sets and its negation, the order of sets and the order or
-/// equality, subset and superset, and the union, the intersection, the difference and the symmetric difference.
+/// equality, subset and superset, the union, the intersection, the difference and the symmetric difference, and the element relation.
 pub fn is_set_shape(relation: Relation) -> bool
     ensures { result ≡ is_shape relation }
+{
+    is_between_sets(relation) || is_element(relation)
+}
+
+/// Whether the relation is one of two or three sets.
+fn is_between_sets(relation: Relation) -> bool
+    ensures { result ≡ is_between_sets relation }
 {
     match relation {
         Relation::SetEq => true,
@@ -35,8 +42,15 @@ pub fn is_set_shape(relation: Relation) -> bool
     }
 }
 
+/// Whether the relation is that of an index, an array of sets and the set at that place.
+pub(crate) fn is_element(relation: Relation) -> bool
+    ensures { result ≡ is_element relation }
+{
+    matches!(relation, Relation::ArraySetElement)
+}
+
 pub(crate) fn machine_of(relation: Relation) -> SetMachine
-    requires { is_shape relation ≡ true }
+    requires { is_between_sets relation ≡ true }
     ensures { result ≡ machine_of relation }
 {
     match relation {

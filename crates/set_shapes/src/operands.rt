@@ -39,6 +39,17 @@ pub(crate) fn operands_of(alloc: Global, args: &[Arg]) -> Result<Operands, Alloc
     }
 }
 
+/// Two sets that are to be compared.
+pub(crate) fn pair_of(alloc: Global, first: &Term, second: &Term) -> Result<Operands, AllocError>
+    ensures { IfOk result (λ o. o ≡ record { first = first.now; second = second.now; third = nothing }) }
+{
+    Ok(Operands {
+        first: copy(alloc, first)?,
+        second: copy(alloc, second)?,
+        third: nothing(alloc)?,
+    })
+}
+
 /// The empty set.
 fn nothing(alloc: Global) -> Result<Term, AllocError>
     ensures { IfOk result (λ t. t ≡ nothing) }

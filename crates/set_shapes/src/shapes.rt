@@ -12,10 +12,11 @@ ghost use Rattle.set_meaning.specs.Relations.{HoldsOf};
 ghost use Rattle.set_meaning.specs.Rows.{FitsRow};
 ghost use Rattle.scope_words.specs.Words.{variables_in, AreBitsOf, IsDiagramOf, NewArePartsOfWords, NewReachOnlyScope};
 ghost use Rattle.set_shapes.specs.Operands.{operands_of};
-ghost use Rattle.set_shapes.specs.Shapes.{is_shape, machine_of, accepted_by};
+ghost use Rattle.set_shapes.specs.Shapes.{is_between_sets, is_element, is_shape, machine_of, accepted_by};
 ghost use Rattle.set_shapes.specs.Tables.{AreSets, IsTable};
 
-use crate::machines::{SetMachine, machine_of};
+use crate::element_relation::{elements_have_words, item_machine};
+use crate::machines::{SetMachine, is_element, machine_of};
 use crate::operands::operands_of;
 use crate::tables::Table;
 use bit_layout::Layout;
@@ -30,8 +31,11 @@ use std::alloc::{AllocError, Global};
 /// aside. Constants and variables may be mixed, a variable may stand twice, and universes may differ. The variables have at most 2,048
 /// bits in all, as those of each constraint.
 ///
-/// It is made in one build, in time linear in the bits and the elements times the logarithm of their number. Full and Memory come as from
-/// `Ops::node`; memory is also wanted for tables that last one call. Nodes that were made before a refusal stay.
+/// It is made in one build, for relations of sets alone in time linear in the bits and the elements times the logarithm of their number. For the
+/// element relation, at each place there are at most as many states as sets of items that can still be met, each with its progress; memory is
+/// wanted in proportion to the items times the bits, and times the constant elements of each item and of the set. An index outside its array
+/// satisfies nothing. Full and Memory come as from `Ops::node`; memory is also wanted for tables that last one call. Nodes that were made
+/// before a refusal stay.
 pub fn set_shape(
     alloc: Global,
     ops: &mut Ops,
@@ -40,6 +44,58 @@ pub fn set_shape(
     c: &Constraint,
 ) -> Result<Ref, Stop>
     requires shape { is_shape c.now.relation ≡ true }
+    requires fits { FitsRow p.now.kinds c.now }
+    requires layout { layout.now.kinds ≡ p.now.kinds }
+    requires few { (bits : List ℕ) → AreBitsOf layout.now (variables_in c.now.args) bits → length bits ≤ most_bits }
+    ensures diagram { IfOk result (IsDiagramOf layout.now (variables_in c.now.args) (HoldsOf c.now.relation c.now.args) (table ops.new.arena)) }
+    ensures stays { Stays ops.old ops.new }
+    ensures full { result ≡ Err Stop.Full → map.len ops.new.arena.nodes ≡ ops.new.arena.limit }
+    ensures parts { NewArePartsOfWords layout.now (variables_in c.now.args) (HoldsOf c.now.relation c.now.args) (table ops.old.arena) (table ops.new.arena) }
+    ensures reach { NewReachOnlyScope layout.now (variables_in c.now.args) (table ops.old.arena) (table ops.new.arena) }
+{
+    if is_element(c.relation) {
+        return element_shape(alloc, ops, layout, p, c);
+    }
+    shape_between_sets(alloc, ops, layout, p, c)
+}
+
+/// The diagram of an element relation.
+fn element_shape(
+    alloc: Global,
+    ops: &mut Ops,
+    layout: &Layout,
+    p: &Problem,
+    c: &Constraint,
+) -> Result<Ref, Stop>
+    requires shape { is_element c.now.relation ≡ true }
+    requires fits { FitsRow p.now.kinds c.now }
+    requires layout { layout.now.kinds ≡ p.now.kinds }
+    requires few { (bits : List ℕ) → AreBitsOf layout.now (variables_in c.now.args) bits → length bits ≤ most_bits }
+    ensures diagram { IfOk result (IsDiagramOf layout.now (variables_in c.now.args) (HoldsOf c.now.relation c.now.args) (table ops.new.arena)) }
+    ensures stays { Stays ops.old ops.new }
+    ensures full { result ≡ Err Stop.Full → map.len ops.new.arena.nodes ≡ ops.new.arena.limit }
+    ensures parts { NewArePartsOfWords layout.now (variables_in c.now.args) (HoldsOf c.now.relation c.now.args) (table ops.old.arena) (table ops.new.arena) }
+    ensures reach { NewReachOnlyScope layout.now (variables_in c.now.args) (table ops.old.arena) (table ops.new.arena) }
+{
+    // What holds of every layout and pool, and of element relations.
+    layout.obeys_order();
+    let _ = ops.pool();
+    elements_have_words();
+    match item_machine(alloc, layout, p.kinds.items(), c.args.items()) {
+        Ok(m) => build(alloc, ops, &m.machine, m.bits.as_slice()),
+        Err(_) => Err(Stop::Memory),
+    }
+}
+
+/// The diagram of a relation of two or three sets.
+fn shape_between_sets(
+    alloc: Global,
+    ops: &mut Ops,
+    layout: &Layout,
+    p: &Problem,
+    c: &Constraint,
+) -> Result<Ref, Stop>
+    requires shape { is_between_sets c.now.relation ≡ true }
     requires fits { FitsRow p.now.kinds c.now }
     requires layout { layout.now.kinds ≡ p.now.kinds }
     requires few { (bits : List ℕ) → AreBitsOf layout.now (variables_in c.now.args) bits → length bits ≤ most_bits }

@@ -199,3 +199,83 @@ fn agrees_with_the_truth_of_each_relation(rt: HostRuntime) -> Result<(), Fail> {
     }
     Ok(())
 }
+
+/// Whether, of the values in the universes, the set has the words of just these: each three octal digits for the three variables.
+fn has_just(
+    alloc: Global,
+    ops: &mut Ops,
+    layout: &Layout,
+    f: Ref,
+    universes: u32,
+    listed: &[u32],
+) -> Result<bool, Stop>
+    requires { IsLive (table ops.old.arena) f }
+{
+    for digits in 0..512_u32 {
+        if digits & universes == digits {
+            let values = values(alloc, digits)?;
+            let has = has_word(ops, layout, f, values.as_slice())?;
+            if has != listed.contains(&digits) {
+                return Ok(false);
+            }
+        }
+    }
+    Ok(true)
+}
+
+/// Whether just these values of the three variables, over these universes, satisfy the relation.
+fn is_just(
+    alloc: Global,
+    relation: Relation,
+    args: &[Given],
+    universes: u32,
+    listed: &[u32],
+) -> Result<bool, Stop> {
+    let p = problem(alloc, kinds(alloc, universes)?);
+    let layout = Layout::new(alloc, &p)?;
+    let mut ops = Ops::new(alloc, 1_000, 64)?;
+    let c = constraint(alloc, relation, args)?;
+    match shape(alloc, &mut ops, &layout, &p, &c)? {
+        Some(f) => has_just(alloc, &mut ops, &layout, f, universes, listed),
+        None => Ok(false),
+    }
+}
+
+/// The empty set is before 1, 1 and 2, and 2; 1 is before 1 and 2, and 2; 1 and 2 is before 2.
+#[test]
+fn orders_the_sets_of_two_elements(rt: HostRuntime) -> Result<(), Fail> {
+    let pair = [Given::Variable(0), Given::Variable(1)];
+    let before = [0o010, 0o030, 0o020, 0o130, 0o120, 0o320];
+    assert!(rt; is_just(rt.alloc(), Relation::SetLt, &pair, 0o330, &before)?);
+    Ok(())
+}
+
+/// A set without itself is empty. With 2 joined, of 1 and 3 only 3 stays within 2 and 3.
+#[test]
+fn reads_a_set_twice_and_beside_a_constant(rt: HostRuntime) -> Result<(), Fail> {
+    let x = Given::Variable(0);
+    let y = Given::Variable(1);
+    let empty = [0o000, 0o100, 0o200, 0o300, 0o400, 0o500, 0o600, 0o700];
+    assert!(rt; is_just(rt.alloc(), Relation::SetDiff, &[x, x, y], 0o770, &empty)?);
+    let with_two = [x, Given::Constant(2, 2), y];
+    assert!(rt;
+        is_just(
+            rt.alloc(),
+            Relation::SetUnion,
+            &with_two,
+            0o560,
+            &[0o020, 0o460]
+        )?
+    );
+    Ok(())
+}
+
+/// A variable without an element that it may have is the empty set.
+#[test]
+fn reads_an_empty_universe(rt: HostRuntime) -> Result<(), Fail> {
+    let pair = [Given::Variable(0), Given::Variable(1)];
+    let any_but_empty = [0o010, 0o020, 0o030];
+    assert!(rt; is_just(rt.alloc(), Relation::SetLt, &pair, 0o030, &any_but_empty)?);
+    assert!(rt; is_just(rt.alloc(), Relation::SetEq, &pair, 0o000, &[0o000])?);
+    Ok(())
+}

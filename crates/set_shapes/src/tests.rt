@@ -10,10 +10,9 @@ ghost use Rattle.set_meaning.specs.Sets.{ascending_set};
 ghost use Rattle.set_meaning.specs.Rows.{FitsRow};
 ghost use Rattle.bit_layout.specs.Limits.{AreWithinLimits};
 ghost use Rattle.scope_words.specs.Words.{variables_in, AreBitsOf};
-ghost use Rattle.set_shapes.specs.Shapes.{is_shape};
 
 use super::{is_set_shape, set_shape};
-use crate::operands::operands_of;
+use crate::variables::variables_in;
 use bit_layout::Layout;
 use diagram_arena::{Ref, Stop};
 use diagram_ops::Ops;
@@ -26,7 +25,7 @@ use set_meaning::{
 use std::alloc::{AllocError, Global};
 use std::test::Fail;
 
-fn sets(alloc: Global, universe: &[i64]) -> Result<Kind, AllocError>
+pub(crate) fn sets(alloc: Global, universe: &[i64]) -> Result<Kind, AllocError>
     ensures { IfOk result (λ kind. kind ≡ variants.Set (ascending_set universe.now)) }
 {
     Ok(Kind::Set(SetValue::from_list(alloc, universe)?))
@@ -70,20 +69,23 @@ pub(crate) fn constraint(
 ) -> Result<Constraint, AllocError> {
     let mut terms = Vec::new(alloc);
     for arg in args {
-        let term = match arg {
-            Given::Variable(v) => Term::Var(VarId(*v)),
-            Given::Constant(first, second) => {
-                let elements = [*first, *second];
-                Term::Const(Value::Set(SetValue::from_list(alloc, &elements)?))
-            }
-        };
-        terms.push(Arg::One(term))?;
+        terms.push(Arg::One(term(alloc, arg)?))?;
     }
     Ok(Constraint {
         relation,
         args: Listed::of(terms),
         reif: None,
     })
+}
+
+pub(crate) fn term(alloc: Global, arg: &Given) -> Result<Term, AllocError> {
+    match arg {
+        Given::Variable(v) => Ok(Term::Var(VarId(*v))),
+        Given::Constant(first, second) => {
+            let elements = [*first, *second];
+            Ok(Term::Const(Value::Set(SetValue::from_list(alloc, &elements)?)))
+        }
+    }
 }
 
 /// Whether the constraint's variables have few enough bits.
@@ -93,14 +95,12 @@ fn is_narrow(
     p: &Problem,
     c: &Constraint,
 ) -> Result<bool, AllocError>
-    requires shape { is_shape c.now.relation ≡ true }
     requires fits { FitsRow p.now.kinds c.now }
     requires layout { layout.now.kinds ≡ p.now.kinds }
     ensures { IfOk result (λ narrow. narrow ≡ true → (bits : List ℕ) → AreBitsOf layout.now (variables_in c.now.args) bits → length bits ≤ most_bits) }
 {
     layout.obeys_order();
-    let operands = operands_of(alloc, c.args.items())?;
-    let variables = operands.variables(alloc)?;
+    let variables = variables_in(alloc, c.args.items())?;
     let bits = scope_bits(alloc, layout, variables.as_slice())?;
     Ok(bits.len() <= 2_048)
 }
@@ -144,7 +144,7 @@ fn word_of(ops: &mut Ops, digits: u32) -> Result<Ref, Stop>
 }
 
 /// The set of the words that the mask has, the first of the sixteen as its highest digit.
-fn listed(ops: &mut Ops, mask: u32) -> Result<Ref, Stop> {
+pub(crate) fn listed(ops: &mut Ops, mask: u32) -> Result<Ref, Stop> {
     let mut list = Ref::Zero;
     for digits in 0..16_u32 {
         if (mask >> (15 - digits)) % 2 == 1 {

@@ -3,7 +3,7 @@ use Rattle.diagram_arena.specs.Part.{IsPartOf}
 use Rattle.set_shapes.specs.Operands.{operands_of}
 use Rattle.set_shapes.proofs.Accepting.{table_long}
 use Rattle.set_shapes.proofs.Ends.{sets_for, shape_table, shape_there, grouped_for, diagram_made, bits_pass}
-use Rattle.set_shapes.proofs.shapes.set_shape.Goals as goal
+use Rattle.set_shapes.proofs.shapes.shape_between_sets.Goals as goal
 
 pub table_of-requires-clause-sets : goal.table_of-requires-clause-sets
 table_of-requires-clause-sets c = sets_for c.args.layout.now c.args.p.now.kinds _ c.args.c.now.relation c.args.c.now.args _ c.obeys_order.ensures c.requires.layout c.items.ensures c.items-2.ensures c.requires.shape c.requires.fits.args
