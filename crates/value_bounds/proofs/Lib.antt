@@ -1,0 +1,5 @@
+pub mod Spelling
+pub mod Orders
+pub mod Membership
+pub mod Closing
+pub mod Samples
