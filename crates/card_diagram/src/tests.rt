@@ -1,6 +1,7 @@
 //! A set over 1, 2 and 3, an integer that is 1 or 3, and constants. The integer's offset from 1 is bits 0 and 1, and 1, 2 and 3 are bits 2, 3
 //! and 4.
 ghost use Rattle.std.specs.Prelude.{◌≡◌, ℕ, ◌≤◌, true, List, IfOk, IfSome, length};
+ghost use Rattle.std.specs.List.Sorted.{IsStrictlyIncreasing};
 ghost use Rattle.diagram_arena.specs.declared.nodes.Ref.{Ref};
 ghost use Rattle.diagram_arena.specs.Table.{IsLive};
 ghost use Rattle.diagram_arena.specs.Arena.{table};
@@ -17,6 +18,7 @@ use crate::machines::machine_of;
 use bit_layout::Layout;
 use diagram_arena::{Ref, Stop};
 use diagram_ops::Ops;
+use diagram_view::node_count;
 use listed::Listed;
 use scope_words::bits_of_a_scope_are_one;
 use set_meaning::{
@@ -43,6 +45,16 @@ fn kinds(alloc: Global) -> Result<Vec<Kind>, AllocError>
 {
     let set = sets(alloc, [1, 2, 3].as_slice())?;
     let number = ints(alloc, [1, 3].as_slice())?;
+    let kinds = vec![in alloc; set, number]?;
+    Ok(kinds)
+}
+
+/// The same set, and an integer that is 0 or 3.
+fn kinds_of_extremes(alloc: Global) -> Result<Vec<Kind>, AllocError>
+    ensures limits { IfOk result (λ kinds. AreWithinLimits kinds.items) }
+{
+    let set = sets(alloc, [1, 2, 3].as_slice())?;
+    let number = ints(alloc, [0, 3].as_slice())?;
     let kinds = vec![in alloc; set, number]?;
     Ok(kinds)
 }
@@ -196,5 +208,43 @@ fn counts_the_elements_of_a_constant(rt: HostRuntime) -> Result<(), Fail> {
     assert_eq!(rt; shape(alloc, &mut ops, &layout, &p, &c)?, Some(Ref::One));
     let c = cardinality(alloc, set(alloc, &[5, 7])?, variable(1))?;
     assert_eq!(rt; shape(alloc, &mut ops, &layout, &p, &c)?, Some(Ref::Zero));
+    Ok(())
+}
+
+/// How many nodes the projection of the diagram to these bits has, if there is a diagram.
+fn projected_size(
+    alloc: Global,
+    ops: &mut Ops,
+    diagram: Option<Ref>,
+    keep: &[u32],
+) -> Result<Option<u64>, Stop>
+    requires live { IfSome diagram (IsLive (table ops.old.arena)) }
+    requires ascends { IsStrictlyIncreasing keep.now }
+    ensures { IfSome diagram (IsLive (table ops.new.arena)) }
+{
+    let Some(r) = diagram else {
+        return Ok(None);
+    };
+    let projected = ops.project(r, keep)?;
+    match node_count(alloc, ops.pool().arena(), projected) {
+        Ok(count) => Ok(Some(count)),
+        Err(AllocError) => Err(Stop::Memory),
+    }
+}
+
+/// Only the empty set and the whole have 0 or 3 elements: of the set the first element is asked, and then each other one on both sides; of the
+/// integer, whose offset is 0 or 3, both digits.
+#[test]
+fn leaves_the_empty_and_the_whole_set(rt: HostRuntime) -> Result<(), Fail> {
+    let alloc = rt.alloc();
+    let p = problem(alloc, kinds_of_extremes(alloc)?);
+    let layout = Layout::new(alloc, &p)?;
+    let mut ops = Ops::new(alloc, 100, 1)?;
+    let c = cardinality(alloc, variable(0), variable(1))?;
+    let sum = shape(alloc, &mut ops, &layout, &p, &c)?;
+    let of_set = projected_size(alloc, &mut ops, sum, &[2, 3, 4])?;
+    let of_number = projected_size(alloc, &mut ops, sum, &[0, 1])?;
+    assert_eq!(rt; of_set, Some(5));
+    assert_eq!(rt; of_number, Some(3));
     Ok(())
 }
