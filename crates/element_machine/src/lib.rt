@@ -5,7 +5,7 @@
 //! `bits_are_read_by_elements` says that it accepts just where the machine of elements does. Definitions stand in `specs/`.
 //!
 //! It serves relations of two or three sets. A relation that also speaks of an integer, as the cardinality of a set or an element of an
-//! array, is a machine of its own: a machine of elements is begun anew with each word, and no state is handed to it from bits before.
+//! array, needs another machine, alone or beside it: one of elements is begun anew with each word, and no state is handed to it from bits before.
 #![tactic(auto)]
 
 mod laws;
