@@ -1,0 +1,276 @@
+-- Units that are done and pinned one after another.
+use Rattle.std.proofs.Common.{◌≡◌, ◌⊎◌, ℕ, zero, suc, ◌+◌, ◌<◌, ◌≤◌, List, [], ◌∷◌, ◌++◌, length, get_or, take, Some, Result, Ok, Err, refl, sym, ap, ◌∙◌, subst, inl, inr, append-nil, append_assoc, arith, Contains}
+use Rattle.std.specs.Prelude.{slice_get, OnErr}
+use Rattle.std.specs.List.{AllZip}
+use Rattle.std.specs.Option.{unwrap_or}
+use Rattle.std.specs.FinMap as map
+use Rattle.std.proofs.lemmas.List.{length-append, length-take}
+use Rattle.std.proofs.lemmas.Option.{slice_get_within}
+use Rattle.std.proofs.lemmas.Slice.Zip.{AllZip-long}
+use Rattle.set_meaning.specs.declared.kinds.Kind.{Kind}
+use Rattle.set_meaning.specs.declared.problems.VarId.{VarId}
+use Rattle.set_meaning.specs.declared.problems.Constraint.{Constraint}
+use Rattle.set_meaning.specs.declared.problems.Problem.{Problem}
+use Rattle.set_meaning.specs.Relations.{IsScope}
+use Rattle.bit_layout.specs.Order.{LayoutState}
+use Rattle.bit_layout.proofs.Listing.{all_zip_next}
+use Rattle.diagram_arena.specs.declared.nodes.Ref.{Ref}
+use Rattle.diagram_arena.specs.Table.{Table, id_cmp, IsReduced}
+use Rattle.diagram_arena.specs.Arena.{ArenaState, table, Grows}
+use Rattle.node_reclaim.specs.Pool.{PoolState}
+use Rattle.diagram_ops.specs.Words.{Stays}
+use Rattle.diagram_ops.proofs.Steps.{stays_self, stays_then, no_news, news_then}
+use Rattle.exact_steps.specs.Domains.{variable}
+use Rattle.propagators.specs.Pins.{Gains, StaysButPins}
+use Rattle.propagators.specs.Compiled.{IsInitialDomain, AreInitialDomains, IsDiagramOfConstraint}
+use Rattle.propagators.specs.Units.{Anything, IsOfUnit, NewAreOfUnits, AreDone}
+use Rattle.propagators.specs.Units.IsOfUnit.{of_variable, of_constraint}
+use Rattle.propagators.specs.Work.{NewAreOfWords, NewAreWantedBy, LeavesUnits, AddsHeld, AreFirstDomains, HoldsConstraints, HoldsUnits}
+use Rattle.propagators.proofs.Counting.{times-append}
+use Rattle.propagators.proofs.Moving.{initial_grows, constraint_grows, all_zip_moves}
+
+-- ---- pins set aside
+
+pub pins_aside : (old mid new : PoolState) → Stays old mid → new.arena ≡ mid.arena → StaysButPins old new
+pins_aside old mid new s e =
+    let P : ArenaState → Type 0 = λ a. Stays old (record { arena = a; counts = old.counts }) in
+    subst P (sym e) (record { reduced = s.reduced; grows = s.grows; keeps = s.keeps; unmarked = s.unmarked; untagged = s.untagged; limit = s.limit; counts = refl })
+
+but_pins_then : (a b d : PoolState) → StaysButPins a b → StaysButPins b d → StaysButPins a d
+but_pins_then a b d first second =
+    let mid : PoolState = record b { counts = a.counts } in
+    let last : PoolState = record d { counts = a.counts } in
+    let later : Stays mid last
+    = record { reduced = second.reduced; grows = second.grows; keeps = second.keeps; unmarked = second.unmarked; untagged = second.untagged; limit = second.limit; counts = refl } in
+    stays_then a mid last first later
+
+same_pins : (old new : PoolState) → new.counts ≡ old.counts → Gains old new []
+same_pins old new e i = let same = ap (λ (m : map.FinMap id_cmp ℕ). unwrap_or (map.get m i) 0) e in omega (arith, same)
+
+-- ---- what is left
+
+pub units_self : (l : LayoutState) (p : Problem) (s : PoolState) → IsReduced (table s.arena) → LeavesUnits l p s s []
+units_self l p s ok = record { nodes = stays_self s ok; parts = no_news (table s.arena) (IsOfUnit l p); gains = same_pins s s refl }
+
+pub units_then : (l : LayoutState) (p : Problem) (a b d : PoolState) (rs qs : List Ref) → LeavesUnits l p a b rs → LeavesUnits l p b d qs → LeavesUnits l p a d (rs ++ qs)
+units_then l p a b d rs qs first second = record {
+  nodes = but_pins_then a b d first.nodes second.nodes;
+  parts = news_then (table a.arena) (table b.arena) (table d.arena) (IsOfUnit l p) second.nodes.grows first.parts second.parts;
+  gains = λ i. let g = first.gains i in let h = second.gains i in let t = times-append i rs qs in omega (arith, g, h, t);
+}
+
+-- after a unit's diagram was made, and its ref was pinned or not
+pub adds : (l : LayoutState) (p : Problem) (old mid new : PoolState) (before after rs : List Ref) → Stays old mid → NewAreOfUnits l p (table old.arena) (table mid.arena) → new.arena ≡ mid.arena → Gains mid new rs → after ≡ before ++ rs
+    → AddsHeld l p old new before after rs
+adds l p old mid new before after rs stays parts same gains held = record {
+  left = record {
+    nodes = pins_aside old mid new stays same;
+    parts = subst (λ (a : ArenaState). NewAreOfUnits l p (table old.arena) (table a)) (sym same) parts;
+    gains = λ i. let g = gains i in let e = same_pins old mid stays.counts i in omega (arith, g, e);
+  };
+  held = held;
+}
+
+pub adds_none : (l : LayoutState) (p : Problem) (old mid : PoolState) (before after : List Ref) → Stays old mid → NewAreOfUnits l p (table old.arena) (table mid.arena) → after ≡ before → AddsHeld l p old mid before after []
+adds_none l p old mid before after stays parts held = adds l p old mid mid before after [] stays parts refl (λ i. omega arith) (held ∙ sym (append-nil before))
+
+pub variable_units : (l : LayoutState) (p : Problem) (v : VarId) (k : Kind) (a b : Table) → l.kinds ≡ p.kinds → slice_get l.kinds v.0 ≡ Some k → NewAreOfWords l (v ∷ []) Anything a b → NewAreOfUnits l p a b
+variable_units l p v k a b same e parts i none live =
+    let within = slice_get_within l.kinds v.0 k e in
+    of_variable v (subst (λ (ks : List Kind). v.0 < length ks) same within) (parts i none live)
+
+pub constraint_units : (l : LayoutState) (p : Problem) (c : Constraint) (a b : Table) → Contains p.constraints c → NewAreWantedBy l c a b → NewAreOfUnits l p a b
+constraint_units l p c a b listed parts i none live = of_constraint c listed (parts i none live)
+
+-- ---- the domains
+
+slice_push : {X : Type 0} (xs : List X) (x : X) (n : ℕ) (y : X) → slice_get (xs ++ x ∷ []) n ≡ Some y → (slice_get xs n ≡ Some y) ⊎ ((n ≡ length xs) × (x ≡ y))
+slice_push [] x zero y e = inr (refl, cc)
+slice_push [] x (suc n) y e = absurd (cc)
+slice_push (z ∷ xs) x zero y e = inl e
+slice_push (z ∷ xs) x (suc n) y e = elim (slice_push xs x n y e) [
+  | inl h ↦ inl h
+  | inr h ↦ let same = h.0 in inr (omega (arith, same), h.1)
+]
+
+first_domains_grow : (l : LayoutState) (p : Problem) (t u : Table) (domains : List Ref) → Grows t u → AreFirstDomains l p t domains → AreFirstDomains l p u domains
+first_domains_grow l p t u domains grows are = record { few = are.few; each = λ v r e. initial_grows l t u v r grows (are.each v r e) }
+
+first_domains_push : (l : LayoutState) (p : Problem) (t : Table) (domains : List Ref) (v : VarId) (r : Ref) → AreFirstDomains l p t domains → length domains ≡ v.0 → v.0 < length p.kinds → IsInitialDomain l t v r
+    → AreFirstDomains l p t (domains ++ r ∷ [])
+first_domains_push l p t domains v r are long within is = record {
+  few = let more = length-append domains (r ∷ []) in omega (arith, more, long, within);
+  each = λ u q e. elim (slice_push domains r u.0 q e) [
+    | inl earlier ↦ are.each u q earlier
+    | inr here ↦
+        let number : v.0 ≡ u.0 = sym (here.0 ∙ long) in
+        subst (λ (x : Ref). IsInitialDomain l t u x) here.1 (subst (λ (n : ℕ). IsInitialDomain l t (variable n) r) number is)
+  ];
+}
+
+-- the first i domains, all pinned
+pub record DomainsSo (l : LayoutState) (p : Problem) (old now : PoolState) (start held : List Ref) (i : ℕ) : Type 0 where
+  pub done : AreFirstDomains l p (table now.arena) held
+  pub left : LeavesUnits l p old now held
+  pub same : held ≡ start
+  pub long : length start ≡ i
+
+pub domains_first : (l : LayoutState) (p : Problem) (s : PoolState) (start held : List Ref) → IsReduced (table s.arena) → start ≡ [] → held ≡ [] → DomainsSo l p s s start held 0
+domains_first l p s start held ok f e = subst (λ (xs : List Ref). DomainsSo l p s s xs held 0) (sym f) (subst (λ (hs : List Ref). DomainsSo l p s s [] hs 0) (sym e) (record {
+  done = record { few = omega arith; each = λ v r none. absurd (cc) };
+  left = units_self l p s ok;
+  same = refl;
+  long = refl;
+}))
+
+-- what is known of the pins that are held
+pub record DomainsHeld (l : LayoutState) (p : Problem) (old now : PoolState) (held : List Ref) : Type 0 where
+  pub done : AreFirstDomains l p (table now.arena) held
+  pub left : LeavesUnits l p old now held
+
+pub domains_refused : (l : LayoutState) (p : Problem) (old a b : PoolState) (start held after : List Ref) (i : ℕ) → DomainsSo l p old a start held i → AddsHeld l p a b held after [] → DomainsHeld l p old b after
+domains_refused l p old a b start held after i so more =
+    subst (DomainsHeld l p old b) (sym (more.held ∙ append-nil held)) (record {
+      done = first_domains_grow l p (table a.arena) (table b.arena) held more.left.nodes.grows so.done;
+      left = subst (LeavesUnits l p old b) (append-nil held) (units_then l p old a b held [] so.left more.left);
+    })
+
+pub domains_more : (l : LayoutState) (p : Problem) (old a b : PoolState) (start held after : List Ref) (i : ℕ) (v : VarId) (r : Ref) → DomainsSo l p old a start held i → i < length p.kinds → v.0 ≡ i → IsInitialDomain l (table b.arena) v r
+    → AddsHeld l p a b held after (r ∷ []) → DomainsHeld l p old b after
+domains_more l p old a b start held after i v r so within number is more =
+    let long : length held ≡ v.0 = ap length so.same ∙ so.long ∙ sym number in
+    let inside : v.0 < length p.kinds = omega (arith, number, within) in
+    subst (DomainsHeld l p old b) (sym more.held) (record {
+      done = first_domains_push l p (table b.arena) held v r (first_domains_grow l p (table a.arena) (table b.arena) held more.left.nodes.grows so.done) long inside is;
+      left = units_then l p old a b held (r ∷ []) so.left more.left;
+    })
+
+pub domains_next : (l : LayoutState) (p : Problem) (old a b : PoolState) (start new held after : List Ref) (i : ℕ) (v : VarId) (r : Ref) → DomainsSo l p old a start held i → i < length p.kinds → v.0 ≡ i → IsInitialDomain l (table b.arena) v r
+    → AddsHeld l p a b held after (r ∷ []) → new ≡ start ++ r ∷ [] → DomainsSo l p old b new after (i + 1)
+domains_next l p old a b start new held after i v r so within number is more pushed =
+    let held_now = domains_more l p old a b start held after i v r so within number is more in record {
+      done = held_now.done;
+      left = held_now.left;
+      same = more.held ∙ ap (λ rs. rs ++ r ∷ []) so.same ∙ sym pushed;
+      long = let e = ap length pushed in let app = length-append start (r ∷ []) in let before = so.long in omega (arith, e, app, before);
+    }
+
+pub domains_end : (l : LayoutState) (p : Problem) (t : Table) (start : List Ref) → l.kinds ≡ p.kinds → length start ≡ length p.kinds → AreFirstDomains l p t start → AreInitialDomains l t start
+domains_end l p t start same long are = record { long = long ∙ ap length (sym same); each = are.each }
+
+-- ---- the constraints
+
+-- the first i constraints, all pinned
+pub record ConstraintsSo (l : LayoutState) (p : Problem) (old now : PoolState) (start held : List Ref) (scopes : List (List VarId)) (diagrams : List Ref) (i : ℕ) : Type 0 where
+  pub first : AreFirstDomains l p (table now.arena) start
+  pub scoped : AllZip IsScope (take i p.constraints) scopes
+  pub done : AllZip (IsDiagramOfConstraint l (table now.arena)) (take i p.constraints) diagrams
+  pub left : LeavesUnits l p old now diagrams
+  pub all : held ≡ start ++ diagrams
+
+no_constraints : (l : LayoutState) (p : Problem) (s : PoolState) (start held : List Ref) → IsReduced (table s.arena) → AreFirstDomains l p (table s.arena) start → held ≡ start → ConstraintsSo l p s s start held [] [] 0
+no_constraints l p s start held ok are e = record {
+  first = are;
+  scoped = tt;
+  done = tt;
+  left = units_self l p s ok;
+  all = e ∙ sym (append-nil start);
+}
+
+pub constraints_first : (l : LayoutState) (p : Problem) (s : PoolState) (start held : List Ref) (scopes : List (List VarId)) (diagrams : List Ref) → IsReduced (table s.arena) → scopes ≡ [] → diagrams ≡ [] → AreFirstDomains l p (table s.arena) start
+    → held ≡ start → ConstraintsSo l p s s start held scopes diagrams 0
+constraints_first l p s start held scopes diagrams ok f g are e =
+    subst (λ (xs : List (List VarId)). ConstraintsSo l p s s start held xs diagrams 0) (sym f) (subst (λ (rs : List Ref). ConstraintsSo l p s s start held [] rs 0) (sym g) (no_constraints l p s start held ok are e))
+
+diagrams_grow : (l : LayoutState) (t u : Table) (cs : List Constraint) (rs : List Ref) → Grows t u → AllZip (IsDiagramOfConstraint l t) cs rs → AllZip (IsDiagramOfConstraint l u) cs rs
+diagrams_grow l t u cs rs grows is = all_zip_moves (IsDiagramOfConstraint l t) (IsDiagramOfConstraint l u) cs rs (λ c r m d. constraint_grows l t u c r grows d) is
+
+counted : (l : LayoutState) (t : Table) (cs : List Constraint) (rs : List Ref) (i : ℕ) → i ≤ length cs → AllZip (IsDiagramOfConstraint l t) (take i cs) rs → AllZip (IsDiagramOfConstraint l t) (take (length rs) cs) rs
+counted l t cs rs i within is =
+    let long : length rs ≡ length (take i cs) = AllZip-long (IsDiagramOfConstraint l t) (take i cs) rs is in
+    let front = length-take i cs in
+    let number : i ≡ length rs = omega (arith, long, front, within) in
+    subst (λ (n : ℕ). AllZip (IsDiagramOfConstraint l t) (take n cs) rs) number is
+
+pub constraints_held : (l : LayoutState) (p : Problem) (old now : PoolState) (start held : List Ref) (scopes : List (List VarId)) (diagrams : List Ref) (i : ℕ) → i ≤ length p.constraints → ConstraintsSo l p old now start held scopes diagrams i
+    → HoldsConstraints l p old now start held
+constraints_held l p old now start held scopes diagrams i within so = record {
+  diagrams = diagrams;
+  done = record { variables = so.first.few; each = so.first.each; constraints = counted l (table now.arena) p.constraints diagrams i within so.done };
+  left = so.left;
+  all = so.all;
+}
+
+pub constraints_refused : (l : LayoutState) (p : Problem) (old a b : PoolState) (start held after : List Ref) (scopes : List (List VarId)) (diagrams : List Ref) (i : ℕ) → i ≤ length p.constraints → ConstraintsSo l p old a start held scopes diagrams i
+    → AddsHeld l p a b held after [] → HoldsConstraints l p old b start after
+constraints_refused l p old a b start held after scopes diagrams i within so more = record {
+  diagrams = diagrams;
+  done = record {
+    variables = so.first.few;
+    each = (first_domains_grow l p (table a.arena) (table b.arena) start more.left.nodes.grows so.first).each;
+    constraints = counted l (table b.arena) p.constraints diagrams i within (diagrams_grow l (table a.arena) (table b.arena) (take i p.constraints) diagrams more.left.nodes.grows so.done);
+  };
+  left = subst (LeavesUnits l p old b) (append-nil diagrams) (units_then l p old a b diagrams [] so.left more.left);
+  all = more.held ∙ append-nil held ∙ so.all;
+}
+
+more_diagrams : (l : LayoutState) (p : Problem) (old a b : PoolState) (start held : List Ref) (scopes : List (List VarId)) (diagrams : List Ref) (i : ℕ) (c : Constraint) (r : Ref) → i < length p.constraints → c ≡ get_or p.constraints i c
+    → ConstraintsSo l p old a start held scopes diagrams i → Grows (table a.arena) (table b.arena) → IsDiagramOfConstraint l (table b.arena) c r
+    → AllZip (IsDiagramOfConstraint l (table b.arena)) (take (i + 1) p.constraints) (diagrams ++ r ∷ [])
+more_diagrams l p old a b start held scopes diagrams i c r within at so grows is =
+    all_zip_next (IsDiagramOfConstraint l (table b.arena)) p.constraints diagrams (diagrams ++ r ∷ []) i c r within refl
+    (diagrams_grow l (table a.arena) (table b.arena) (take i p.constraints) diagrams grows so.done) (subst (λ (x : Constraint). IsDiagramOfConstraint l (table b.arena) x r) at is)
+
+pub constraints_more : (l : LayoutState) (p : Problem) (old a b : PoolState) (start held after : List Ref) (scopes : List (List VarId)) (diagrams : List Ref) (i : ℕ) (c : Constraint) (r : Ref) → i < length p.constraints → c ≡ get_or p.constraints i c
+    → ConstraintsSo l p old a start held scopes diagrams i → IsDiagramOfConstraint l (table b.arena) c r → AddsHeld l p a b held after (r ∷ []) → HoldsConstraints l p old b start after
+constraints_more l p old a b start held after scopes diagrams i c r within at so is more = record {
+  diagrams = diagrams ++ r ∷ [];
+  done = record {
+    variables = so.first.few;
+    each = (first_domains_grow l p (table a.arena) (table b.arena) start more.left.nodes.grows so.first).each;
+    constraints = counted l (table b.arena) p.constraints (diagrams ++ r ∷ []) (i + 1) (omega (arith, within)) (more_diagrams l p old a b start held scopes diagrams i c r within at so more.left.nodes.grows is);
+  };
+  left = units_then l p old a b diagrams (r ∷ []) so.left more.left;
+  all = more.held ∙ ap (λ rs. rs ++ r ∷ []) so.all ∙ append_assoc start diagrams (r ∷ []);
+}
+
+pub constraints_next : (l : LayoutState) (p : Problem) (old a b : PoolState) (start held after : List Ref) (scopes new_scopes : List (List VarId)) (diagrams new : List Ref) (i : ℕ) (c : Constraint) (scope : List VarId) (r : Ref) → i < length p.constraints
+    → c ≡ get_or p.constraints i c → ConstraintsSo l p old a start held scopes diagrams i → IsScope c scope → IsDiagramOfConstraint l (table b.arena) c r → AddsHeld l p a b held after (r ∷ []) → new_scopes ≡ scopes ++ scope ∷ [] → new ≡ diagrams ++ r ∷ []
+    → ConstraintsSo l p old b start after new_scopes new (i + 1)
+constraints_next l p old a b start held after scopes new_scopes diagrams new i c scope r within at so is_scope is more pushed_scope pushed = record {
+  first = first_domains_grow l p (table a.arena) (table b.arena) start more.left.nodes.grows so.first;
+  scoped = all_zip_next IsScope p.constraints scopes new_scopes i c scope within pushed_scope so.scoped (subst (λ (x : Constraint). IsScope x scope) at is_scope);
+  done = subst (AllZip (IsDiagramOfConstraint l (table b.arena)) (take (i + 1) p.constraints)) (sym pushed) (more_diagrams l p old a b start held scopes diagrams i c r within at so more.left.nodes.grows is);
+  left = subst (LeavesUnits l p old b) (sym pushed) (units_then l p old a b diagrams (r ∷ []) so.left more.left);
+  all = more.held ∙ ap (λ rs. rs ++ r ∷ []) so.all ∙ append_assoc start diagrams (r ∷ []) ∙ ap (λ rs. start ++ rs) (sym pushed);
+}
+
+-- ---- all units
+
+pub domains_units : (l : LayoutState) (p : Problem) (old now : PoolState) (held : List Ref) → AreFirstDomains l p (table now.arena) held → LeavesUnits l p old now held → HoldsUnits l p old now held
+domains_units l p old now held are left = record {
+  domains = held;
+  diagrams = [];
+  done = record { variables = are.few; each = are.each; constraints = tt };
+  left = left;
+  all = sym (append-nil held);
+}
+
+pub constraints_units : (l : LayoutState) (p : Problem) (old mid now : PoolState) (start held : List Ref) → LeavesUnits l p old mid start → HoldsConstraints l p mid now start held → HoldsUnits l p old now held
+constraints_units l p old mid now start held first second = record {
+  domains = start;
+  diagrams = second.diagrams;
+  done = second.done;
+  left = subst (LeavesUnits l p old now) (sym second.all) (units_then l p old mid now start second.diagrams first second.left);
+  all = second.all;
+}
+
+pub compiled_start : (l : LayoutState) (p : Problem) (t : Table) (slice start diagrams : List Ref) → slice ≡ start → l.kinds ≡ p.kinds → length start ≡ length p.kinds → AreDone l p t slice diagrams → AreInitialDomains l t start
+compiled_start l p t slice start diagrams e same long done = record {
+  long = long ∙ ap length (sym same);
+  each = subst (λ (rs : List Ref). (v : VarId) (r : Ref) → slice_get rs v.0 ≡ Some r → IsInitialDomain l t v r) e done.each;
+}
+
+pub on_err : {X E : Type 0} (r : Result X E) (P : Type 0) → P → OnErr r P
+on_err (Ok x) P h = tt
+on_err (Err e) P h = h

@@ -1,0 +1,13 @@
+pub mod Moving
+pub mod Scopes
+pub mod Counting
+pub mod Narrow
+pub mod OneKind
+pub mod Agreeing
+pub mod Truths
+pub mod Leaving
+pub mod Building
+pub mod Initials
+pub mod Holding
+pub mod Reaching
+pub mod Samples

@@ -1,0 +1,5 @@
+use Rattle.diagram_ops.specs.Words.{Stays}
+use Rattle.propagators.proofs.small_domains.mask_of.Given as goal
+
+abbrev pub invariant-loop-number : goal.invariant-loop-number
+invariant-loop-number l = Stays l.initial.ops l.ops

@@ -1,0 +1,5 @@
+pub mod Compiled
+pub mod Units
+pub mod Pins
+pub mod Relations
+pub mod Work
