@@ -1,0 +1,11 @@
+pub mod Splits
+pub mod FineTerms
+pub mod FineNames
+pub mod FineConstraints
+pub mod NarrowScopes
+pub mod NarrowEqualities
+pub mod SmallKinds
+pub mod KeptKinds
+pub mod KeptConstraints
+pub mod KeptGoals
+pub mod Kept

@@ -1,0 +1,9 @@
+//! The problem of a text keeps the limits that diagrams need.
+#![tactic(auto)]
+
+mod laws;
+
+pub use laws::problems_of_texts_keep_limits;
+
+#[cfg(test)]
+mod tests;
