@@ -1,0 +1,4 @@
+pub mod Roots
+pub mod Searches
+pub mod Pinned
+pub mod Rounds

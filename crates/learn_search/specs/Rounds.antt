@@ -1,0 +1,78 @@
+-- The way to the root family: domains that steps lead to, and what a round of steps does to them. Words of private helpers.
+use Rattle.std.specs.Prelude.{◌≡◌, ℕ, ◌<◌, Bool, true, false, List, [], ◌∷◌, Some, slice_get, slice_set, length}
+use Rattle.set_meaning.specs.declared.kinds.Value.{Value}
+use Rattle.set_meaning.specs.declared.problems.VarId.{VarId}
+use Rattle.set_meaning.specs.declared.problems.Bounds.{Bounds}
+use Rattle.set_meaning.specs.declared.problems.Problem.{Problem}
+use Rattle.bit_layout.specs.Order.{LayoutState}
+use Rattle.diagram_arena.specs.declared.nodes.Ref.{Ref}
+use Rattle.diagram_arena.specs.Table.{Table}
+use Rattle.diagram_view.specs.Residuals.{CountsResiduals}
+use Rattle.search_rules.specs.Problem.{Steps, IsLeft, IsRootRefuted}
+use Rattle.search_rules.specs.Measure.{total}
+use Rattle.exact_steps.specs.Domains.{variable, values_in, AreDomains, family}
+use Rattle.value_bounds.specs.Bounds.{AreBoundsOf}
+use Rattle.problem_rules.specs.Posed.{problem_of}
+use Rattle.learn_search.specs.declared.narrowing.Taken.{Taken}
+use Rattle.learn_search.specs.declared.narrowing.Taken.TheVariants as taken
+
+-- steps of the problem's constraints lead from the initial values to these domains
+pub record IsOnWay (p : Problem) (l : LayoutState) (t : Table) (domains : List Ref) : Type 0 where
+  pub domains_are : AreDomains l t domains
+  pub constraints : List ℕ
+  pub steps : Steps (problem_of p) (problem_of p).initial constraints (family l t domains)
+
+-- how many values are left
+abbrev pub left : Problem → LayoutState → Table → List Ref → ℕ
+left p l t domains = total (problem_of p) (family l t domains)
+
+-- some values of the family satisfy constraint number c, and its step leaves the family as it is
+pub record IsQuietAt (p : Problem) (f : ℕ → Value → Bool) (c : ℕ) : Type 0 where
+  pub stays : IsLeft (problem_of p) c f
+  pub values : ℕ → Value
+  pub inside : (u : ℕ) → (problem_of p).scope c u ≡ true → f u (values u) ≡ true
+  pub holds : (problem_of p).holds c values
+
+-- the first constraints, so many, are quiet
+abbrev pub AreQuiet : Problem → (ℕ → Value → Bool) → ℕ → Type 0
+AreQuiet p f count = (c : ℕ) → c < count → IsQuietAt p f c
+
+-- the list with each of the refs at its place
+abbrev pub put_each : List (VarId × Ref) → List Ref → List Ref
+put_each [] domains = domains
+put_each ((v, r) ∷ kept) domains = put_each kept (slice_set domains v.0 r)
+
+-- what the step of constraint number c does
+abbrev pub IsTaken : Problem → LayoutState → Table → Table → ℕ → List Ref → List Ref → Taken → Type 0
+IsTaken p l t u c old new taken.Quiet = (new ≡ old) × IsQuietAt p (family l u new) c
+IsTaken p l t u c old new taken.Narrowed = IsOnWay p l u new × (left p l u new < left p l t old)
+IsTaken p l t u c old new taken.Violated = IsRootRefuted (problem_of p)
+
+-- what the steps of the first constraints, so many, did: nothing, and each is quiet; or they took values
+abbrev pub IsSoFar : Problem → LayoutState → Table → Table → ℕ → List Ref → List Ref → Bool → Type 0
+IsSoFar p l t u count old new false = (new ≡ old) × AreQuiet p (family l u new) count
+IsSoFar p l t u count old new true = IsOnWay p l u new × (left p l u new < left p l t old)
+
+-- what the steps of all constraints do
+abbrev pub IsRound : Problem → LayoutState → Table → Table → List Ref → List Ref → Taken → Type 0
+IsRound p l t u old new taken.Quiet = IsSoFar p l t u (length p.constraints) old new false
+IsRound p l t u old new taken.Narrowed = IsSoFar p l t u (length p.constraints) old new true
+IsRound p l t u old new taken.Violated = IsRootRefuted (problem_of p)
+
+-- the domains are those of the root family, or the root is refuted
+pub record IsRootFamily (p : Problem) (l : LayoutState) (t : Table) (domains : List Ref) : Type 0 where
+  pub way : IsOnWay p l t domains
+  pub quiet : AreQuiet p (family l t domains) (length p.constraints)
+
+abbrev pub IsFixed : Problem → LayoutState → Table → List Ref → Bool → Type 0
+IsFixed p l t domains true = IsRootFamily p l t domains
+IsFixed p l t domains false = IsRootRefuted (problem_of p)
+
+-- the bounds and the size of the values of a domain
+abbrev pub IsRowAt : LayoutState → Table → ℕ → Ref → Bounds × ℕ → Type 0
+IsRowAt l t v r row = AreBoundsOf (values_in l t (variable v) r) row.0 × CountsResiduals t r row.1
+
+-- a row for each of the first domains, so many
+pub record AreRowsAt (l : LayoutState) (t : Table) (domains : List Ref) (count : ℕ) (rows : List (Bounds × ℕ)) : Type 0 where
+  pub long : length rows ≡ count
+  pub each : (v : ℕ) (row : Bounds × ℕ) → slice_get rows v ≡ Some row → (r : Ref) × (slice_get domains v ≡ Some r) × IsRowAt l t v r row

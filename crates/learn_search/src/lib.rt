@@ -1,0 +1,13 @@
+//! The search over decision diagrams. So far it finds the root family: the largest family of domains that the exact step of
+//! every constraint leaves as it is (domain consistency; Hawkins, Lagoon and Stuckey, JAIR 2005).
+#![tactic(auto)]
+
+mod narrowing;
+mod root;
+mod rows;
+mod search;
+
+pub use search::{LastState, NotBegun, RootFound, Search, SearchEnd, StopFault};
+
+#[cfg(test)]
+mod tests;
