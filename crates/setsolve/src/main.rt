@@ -1,4 +1,5 @@
-//! `setsolve MODEL`: reads a FlatZinc model over sets, and prints a solution of it or that it has none.
+//! `setsolve [--root] MODEL`: reads a FlatZinc model over sets, and prints a solution of it or that it has none, or, with `--root`, the bounds
+//! of each variable in the root family.
 #![tactic(auto)]
 
 use desk::RealDesk;

@@ -5,3 +5,4 @@ pub mod Endings
 pub mod Run
 pub mod Small
 pub mod Texts
+pub mod Roots

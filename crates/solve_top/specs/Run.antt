@@ -10,8 +10,10 @@ use Rattle.desk.specs.Causes.{Faults, Rose}
 use Rattle.desk.specs.Texts.{WritesFront}
 use Rattle.solve_top.specs.declared.solving.Status.{Status}
 use Rattle.solve_top.specs.declared.solving.Status.TheVariants as status
-use Rattle.solve_top.specs.Texts.{IsAnsweredBy, IsRefusedBy}
-use Rattle.solve_top.specs.Endings.{usage_line, read_fault_line, memory_lines}
+use Rattle.solve_top.specs.declared.words.Task.{Task}
+use Rattle.solve_top.specs.declared.words.Task.TheVariants.{Root}
+use Rattle.solve_top.specs.Texts.{IsAccepted, IsDoneBy, IsRefusedBy}
+use Rattle.solve_top.specs.Endings.{usage_line, read_fault_line, nodes_lines, memory_lines}
 
 -- ---- the outside
 
@@ -36,38 +38,45 @@ abbrev pub Causes : Status → Faults → Faults → Type 0
 Causes status.ReadFault f g = Rose f.reads g.reads × (g.writes ≡ f.writes)
 Causes status.WriteFault f g = Rose f.writes g.writes × ((g.reads ≡ f.reads) ⊎ Rose f.reads g.reads)
 Causes status.Done f g = g ≡ f
+Causes status.Nodes f g = g ≡ f
 Causes status.Words f g = g ≡ f
 Causes status.File f g = g ≡ f
 Causes status.Memory f g = g ≡ f
 
 -- ---- the two steps of a run
 
--- what a status and the bytes to be printed say of the run of a model's file. The counts of failed reads are those
--- before the run and after it.
-abbrev pub Ends : List ℕ → State → ℕ → ℕ → Status → List ℕ → Type 0
-Ends name old before now status.Done out = (now ≡ before) × OfFile name old (λ text. IsAnsweredBy text out)
-Ends name old before now status.File out = (now ≡ before) × OfFile name old (λ text. IsRefusedBy text out)
-Ends name old before now status.ReadFault out = Rose before now × (out ≡ read_fault_line)
-Ends name old before now status.Memory out = (now ≡ before) × (out ≡ memory_lines)
-Ends name old before now _ out = ⊥
+-- what holds of the model's file where a run that is asked for this prints these bytes and ends with this status. The counts of failed
+-- reads are those before the run and after it.
+abbrev pub Ends : Task → List ℕ → State → ℕ → ℕ → Status → List ℕ → Type 0
+Ends task name old before now status.Done out = (now ≡ before) × OfFile name old (λ text. IsDoneBy task text out)
+Ends task name old before now status.Nodes out = (now ≡ before) × (task ≡ Root) × (out ≡ nodes_lines) × OfFile name old IsAccepted
+Ends task name old before now status.File out = (now ≡ before) × OfFile name old (λ text. IsRefusedBy task text out)
+Ends task name old before now status.ReadFault out = Rose before now × (out ≡ read_fault_line)
+Ends task name old before now status.Memory out = (now ≡ before) × (out ≡ memory_lines)
+Ends task name old before now _ out = ⊥
 
 -- The model's file was read, or not, and the run is to end so. Nothing was printed yet.
-pub record Reads (name : List ℕ) (old new : State) (f g : Faults) (s : Status) (out : List ℕ) : Type 0 where
+pub record Reads (task : Task) (name : List ℕ) (old new : State) (f g : Faults) (s : Status) (out : List ℕ) : Type 0 where
   pub leaves : LeavesModel name [] old new
-  pub ends : Ends name old f.reads g.reads s out
+  pub ends : Ends task name old f.reads g.reads s out
   pub causes : Causes s f g
 
--- The usage line is to be printed, and nothing was touched.
+-- what is printed where the words ask for nothing
+abbrev pub EndsWords : Status → List ℕ → Type 0
+EndsWords status.Words out = out ≡ usage_line
+EndsWords status.Memory out = out ≡ memory_lines
+EndsWords _ out = ⊥
+
+-- This is to be printed, and nothing was touched.
 pub record RefusesWords (old new : State) (f g : Faults) (s : Status) (out : List ℕ) : Type 0 where
-  pub status : s ≡ status.Words
-  pub text : out ≡ usage_line
+  pub ends : EndsWords s out
   pub state : new ≡ old
   pub faults : g ≡ f
 
--- the first step, by the name of the model's file, if the words have one
-abbrev pub Begins : Option (List ℕ) → State → State → Faults → Faults → Status → List ℕ → Type 0
+-- the first step, by what the words ask for, if it is anything
+abbrev pub Begins : Option (Task × List ℕ) → State → State → Faults → Faults → Status → List ℕ → Type 0
 Begins None = RefusesWords
-Begins (Some name) = Reads name
+Begins (Some (task, name)) = Reads task name
 
 -- Only a front of the bytes was printed, and then writing has failed.
 pub record PrintsFront (out : List ℕ) (old new : State) (f g : Faults) : Type 0 where
@@ -89,16 +98,18 @@ Prints s out old new f g result = PrintsAll s out old new f g result
 -- ---- a whole run
 
 -- Writing has failed: what was printed is a front of what another status would have printed.
-abbrev pub IsCutShort : List ℕ → State → State → Faults → Faults → Type 0
-IsCutShort name old new f g =
+abbrev pub IsCutShort : Task → List ℕ → State → State → Faults → Faults → Type 0
+IsCutShort task name old new f g =
     Rose f.writes g.writes × ((s : Status) × ((out : List ℕ)
-    × (Ends name old f.reads g.reads s out × ((n : ℕ) × ((n < length out) × LeavesModel name (take n out) old new)))))
+    × (Ends task name old f.reads g.reads s out × ((n : ℕ) × ((n < length out) × LeavesModel name (take n out) old new)))))
 
--- What a run means, by the name of the model's file, if the words have one, and by its status.
--- With no such name the usage line is printed, and nothing else is touched.
-abbrev pub RunMeans : Option (List ℕ) → State → State → Faults → Faults → Status → Type 0
+-- What a run means, by what the words ask for, if it is anything, and by its status.
+-- Where they ask for nothing the usage line is printed, unless memory was refused, and nothing else is touched.
+abbrev pub RunMeans : Option (Task × List ℕ) → State → State → Faults → Faults → Status → Type 0
 RunMeans None old new f g status.Words = new ≡ written to.Out usage_line old
-RunMeans None old new f g status.WriteFault = Rose f.writes g.writes × WritesFront to.Out usage_line old new
+RunMeans None old new f g status.Memory = new ≡ written to.Out memory_lines old
+RunMeans None old new f g status.WriteFault =
+    Rose f.writes g.writes × (WritesFront to.Out usage_line old new ⊎ WritesFront to.Out memory_lines old new)
 RunMeans None old new f g _ = ⊥
-RunMeans (Some name) old new f g status.WriteFault = IsCutShort name old new f g
-RunMeans (Some name) old new f g s = (out : List ℕ) × (Ends name old f.reads g.reads s out × LeavesModel name out old new)
+RunMeans (Some (task, name)) old new f g status.WriteFault = IsCutShort task name old new f g
+RunMeans (Some (task, name)) old new f g s = (out : List ℕ) × (Ends task name old f.reads g.reads s out × LeavesModel name out old new)

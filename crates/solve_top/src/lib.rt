@@ -3,9 +3,11 @@
 
 mod ending;
 mod enumeration;
+mod root;
 mod small;
 mod solving;
 #[cfg(test)]
 mod tests;
+mod words;
 
 pub use solving::{Report, Status, run};

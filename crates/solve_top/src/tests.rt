@@ -1,10 +1,13 @@
 // Runs over a desk in memory, and the order in which assignments are tried. The expected texts are worked out by hand.
 use super::*;
 use crate::enumeration::first_solution;
+use crate::root::family_text;
 use desk::{Desk, DeskCall, MemoryDesk};
+use learn_search::LastState;
 use listed::Listed;
 use set_meaning::{
-    Arg, Constraint, Goal, Kind, Problem, Relation, SetValue, Shown, Term, Text, Value, VarId,
+    Arg, Bounds, Constraint, Goal, Kind, Problem, Relation, SetValue, Shown, Term, Text, Value,
+    VarId,
 };
 use std::alloc::{AllocError, Global};
 use std::test::Fail;
@@ -198,29 +201,269 @@ fn spaces(alloc: Global, count: usize) -> Result<Vec<u8>, AllocError> {
 #[test]
 fn a_text_that_is_too_long_is_told(rt: HostRuntime) -> Result<(), Fail> {
     let alloc = rt.alloc();
-    for (count, printed) in [
-        (67_108_865, "% error: text too long\n"),
+    let rows: [(&[&str], usize, &str); 3] = [
+        (&["m"], 67_108_865, "% error: text too long\n"),
+        (&["--root", "m"], 67_108_865, "% error: text too long\n"),
         (
+            &["m"],
             67_108_864,
             "% error line 1 column 67108865: text ends too early\n",
         ),
-    ] {
+    ];
+    for (words, count, printed) in rows {
         let mut desk = MemoryDesk::new(alloc);
         desk.put_file("m", spaces(alloc, count)?.as_slice())?;
-        assert_eq!(rt; status_of(alloc, &["m"], &mut desk)?, 3);
+        assert_eq!(rt; status_of(alloc, words, &mut desk)?, 3);
+        assert_eq!(rt; desk.out(), printed.as_bytes());
+    }
+    Ok(())
+}
+
+/// A model's text, and what `--root` prints for it. The residuals are counted by hand: at each bit, the sets of remaining words for which the
+/// next bit matters.
+const ROOT_ROWS: [(&str, &str); 14] = [
+    (
+        "var set of 1..3: x; var {0,3}: n; constraint set_card(x, n); solve satisfy;",
+        "% root x {}..{1,2,3} nodes 5\n% root n 0..3 nodes 3\n",
+    ),
+    (
+        "var 0..3: b; var set of 1..2: c; constraint array_set_element(b, [{1},{2}], c); solve satisfy;",
+        "% root b 1..2 nodes 3\n% root c {}..{1,2} nodes 3\n",
+    ),
+    (
+        "var -2..3: a; var 0..4: b; constraint int_lin_eq([2,-1], [a,b], 1); solve satisfy;",
+        "% root a 1..2 nodes 5\n% root b 1..3 nodes 2\n",
+    ),
+    (
+        "constraint bool_eq(true, false); solve satisfy;",
+        "=====UNSATISFIABLE=====\n",
+    ),
+    (
+        "var set of 1..1: x; constraint set_subset({2}, x); solve satisfy;",
+        "=====UNSATISFIABLE=====\n",
+    ),
+    (
+        "var set of 1..3: x :: output_var; var 0..3: n; constraint set_card(x, n); constraint set_in(2, x); solve minimize n;",
+        "% root x {2}..{1,2,3} nodes 1\n% root n 1..3 nodes 2\n",
+    ),
+    (
+        "var bool: a; var bool: b; constraint bool_eq(b, true); solve satisfy;",
+        "% root a false..true nodes 0\n% root b true..true nodes 1\n",
+    ),
+    // of two bits, all words and all but one
+    (
+        "var 0..3: a; var 0..2: b; solve satisfy;",
+        "% root a 0..3 nodes 0\n% root b 0..2 nodes 2\n",
+    ),
+    (
+        "var 5..5: a; var set of 1..0: x; solve satisfy;",
+        "% root a 5..5 nodes 0\n% root x {}..{} nodes 0\n",
+    ),
+    // a round in this order narrows a and b alone to one value; c and d want two more
+    (
+        "var 0..3: a; var 0..3: b; var 0..3: c; var 0..3: d; constraint int_lt(c, d); constraint int_lt(b, c); constraint int_lt(a, b); solve satisfy;",
+        "% root a 0..0 nodes 2\n% root b 1..1 nodes 2\n% root c 2..2 nodes 2\n% root d 3..3 nodes 2\n",
+    ),
+    ("solve satisfy;", ""),
+    // the variable of a constant objective has no name
+    ("constraint bool_eq(true, true); solve maximize 5;", ""),
+    ("var 1..2: a; solve minimize 5;", "% root a 1..2 nodes 0\n"),
+    // no two of three Booleans are alike: each alone has both values left, and there is no solution
+    (
+        "var bool: a; var bool: b; var bool: c; constraint bool_not(a, b); constraint bool_not(b, c); constraint bool_not(a, c); solve satisfy;",
+        "% root a false..true nodes 0\n% root b false..true nodes 0\n% root c false..true nodes 0\n",
+    ),
+];
+
+#[test]
+fn root_families_are_told(rt: HostRuntime) -> Result<(), Fail> {
+    let alloc = rt.alloc();
+    for (model, printed) in ROOT_ROWS {
+        let mut desk = desk_with(alloc, model)?;
+        assert_eq!(rt;
+            status_of(alloc, &["--root", "m"], &mut desk)?,
+            0,
+            "{model}"
+        );
+        assert_eq!(rt; desk.out(), printed.as_bytes(), "{model}");
+        assert_eq!(rt; desk.faults(), 0, "{model}");
+    }
+    Ok(())
+}
+
+#[test]
+fn the_flag_stands_before_the_model_or_after_it(rt: HostRuntime) -> Result<(), Fail> {
+    let alloc = rt.alloc();
+    let rows: [(&[&str], &str); 4] = [
+        (&["m", "--root"], "% root a 0..3 nodes 0\n"),
+        (&["--root", "--", "m"], "% root a 0..3 nodes 0\n"),
+        (&["--", "m"], "a = 0;\n----------\n"),
+        (&["m", "--"], "a = 0;\n----------\n"),
+    ];
+    for (words, printed) in rows {
+        let mut desk = desk_with(alloc, "var 0..3: a :: output_var; solve satisfy;")?;
+        assert_eq!(rt; status_of(alloc, words, &mut desk)?, 0);
         assert_eq!(rt; desk.out(), printed.as_bytes());
     }
     Ok(())
 }
 
 #[test]
+fn the_root_command_tells_faults_of_the_text(rt: HostRuntime) -> Result<(), Fail> {
+    let alloc = rt.alloc();
+    let mut desk = desk_with(alloc, "var int: x; solve satisfy;")?;
+    assert_eq!(rt; status_of(alloc, &["--root", "m"], &mut desk)?, 3);
+    assert_eq!(rt;
+        desk.out(),
+        b"% error line 1 column 5: unbounded\n".as_slice()
+    );
+    Ok(())
+}
+
+/// Declares `x1` to `x30` over 0..100, and says that their sum is 2,990.
+fn wide_sum(alloc: Global) -> Result<String, AllocError> {
+    let mut text = String::new(alloc);
+    let mut factors = String::new(alloc);
+    let mut names = String::new(alloc);
+    for i in 1..31u32 {
+        let comma = if i == 1 { "" } else { "," };
+        let name = format!(in alloc; "x{i}")?;
+        text.push_str(format!(in alloc; "var 0..100: {name};\n")?.as_str())?;
+        factors.push_str(format!(in alloc; "{comma}1")?.as_str())?;
+        names.push_str(format!(in alloc; "{comma}{name}")?.as_str())?;
+    }
+    let sum = format!(in alloc;
+        "constraint int_lin_eq([{factors}], [{names}], 2990);\nsolve satisfy;"
+    )?;
+    text.push_str(sum.as_str())?;
+    Ok(text)
+}
+
+/// Each may be from 90 to 100. Of these words of seven bits, 1011010 to 1100100, one set of remaining words is left at the first two bits each. Behind
+/// 10 at least 11010 remains, and behind 11 at most 00100: both matter at each further bit, but behind 10 the last bit does not.
+fn wide_root(alloc: Global) -> Result<String, AllocError> {
+    let mut text = String::new(alloc);
+    for i in 1..31u32 {
+        text.push_str(format!(in alloc; "% root x{i} 90..100 nodes 11\n")?.as_str())?;
+    }
+    Ok(text)
+}
+
+#[test]
+fn the_root_family_of_a_wide_sum_is_told(rt: HostRuntime) -> Result<(), Fail> {
+    let alloc = rt.alloc();
+    let text = wide_sum(alloc)?;
+    let mut desk = desk_with(alloc, text.as_str())?;
+    assert_eq!(rt; status_of(alloc, &["--root", "m"], &mut desk)?, 0);
+    assert_eq!(rt; desk.out(), wide_root(alloc)?.as_str().as_bytes());
+    Ok(())
+}
+
+/// A sum of five variables that is a sixth: at each bit of the second variable and of those behind it there are some 65,000 sums so far, and no
+/// two of them leave the same.
+const TOO_MANY_NODES: &str =
+    "var 0..65535: a; var 0..65535: b; var 0..65535: c; var 0..65535: d; var 0..65535: e; var 0..65535: f; constraint int_lin_eq([1,1,1,1,1,-1], [a,b,c,d,e,f], 0); solve satisfy;";
+
+/// The status of a run, and how many nodes its last state has and how many pins it names, if it has one.
+fn stop_of<D: Desk>(
+    alloc: Global,
+    words: &[&str],
+    desk: &mut D,
+) -> Result<(u8, Option<(u32, usize)>), AllocError> {
+    let mut owned = Vec::new(alloc);
+    for word in words {
+        owned.push(word.to_string(alloc)?)?;
+    }
+    let report = run(alloc, owned.as_slice(), desk);
+    Ok((report.status.number(), sizes(&report.stop)))
+}
+
+fn sizes(stop: &Option<LastState>) -> Option<(u32, usize)> {
+    match stop {
+        Some(last) => Some((last.pool.arena().len(), last.named.len())),
+        None => None,
+    }
+}
+
+#[test]
+fn too_many_nodes_are_told(rt: HostRuntime) -> Result<(), Fail> {
+    let alloc = rt.alloc();
+    let mut desk = desk_with(alloc, TOO_MANY_NODES)?;
+    // no word of sixteen bits is left out, so the six initial sets have no node, and the constraint, which has, is not finished
+    assert_eq!(rt;
+        stop_of(alloc, &["--root", "m"], &mut desk)?,
+        (1, Some((4_000_000, 0)))
+    );
+    assert_eq!(rt;
+        desk.out(),
+        b"=====UNKNOWN=====\n% limit nodes\n".as_slice()
+    );
+    assert_eq!(rt; stop_of(alloc, &["m"], &mut desk)?, (3, None));
+    Ok(())
+}
+
+#[test]
+fn a_variable_without_a_name_has_no_line(rt: HostRuntime) -> Result<(), Fail> {
+    let alloc = rt.alloc();
+    let names = vec![in alloc;
+        Listed::of(Vec::new(alloc)),
+        Listed::of(Vec::from_slice(alloc, b"n")?),
+        Listed::of(Vec::new(alloc)),
+    ]?;
+    let rows = vec![in alloc;
+        (Bounds::Int(1, 2), 3),
+        (Bounds::Bool(false, true), 0),
+        (Bounds::Int(4, 5), 6),
+    ]?;
+    let text = family_text(alloc, names.as_slice(), rows.as_slice())?;
+    assert_eq!(rt;
+        text.as_slice(),
+        b"% root n false..true nodes 0\n".as_slice()
+    );
+    Ok(())
+}
+
+#[test]
 fn wrong_words_are_told_the_usage(rt: HostRuntime) -> Result<(), Fail> {
     let alloc = rt.alloc();
-    let rows: [&[&str]; 3] = [&[], &["-a"], &["m", "m"]];
+    let rows: [&[&str]; 11] = [
+        &[],
+        &["-a"],
+        &["m", "m"],
+        &["--root"],
+        &["--root", "--root", "m"],
+        &["--root", "m", "m"],
+        &["--root=true", "m"],
+        &["--help", "m"],
+        &["--version"],
+        &["-h"],
+        &["--", "a", "b"],
+    ];
     for words in rows {
         let mut desk = desk_with(alloc, TWO_SETS)?;
         assert_eq!(rt; status_of(alloc, words, &mut desk)?, 2);
-        assert_eq!(rt; desk.out(), b"% usage: setsolve MODEL\n".as_slice());
+        assert_eq!(rt;
+            desk.out(),
+            b"% usage: setsolve [--root] MODEL\n".as_slice()
+        );
+    }
+    Ok(())
+}
+
+#[test]
+fn faults_of_the_desk_end_the_root_command(rt: HostRuntime) -> Result<(), Fail> {
+    let alloc = rt.alloc();
+    let rows = [
+        (DeskCall::BeginRead, 4, "% read fault\n"),
+        (DeskCall::Read, 4, "% read fault\n"),
+        (DeskCall::WriteOut, 5, ""),
+    ];
+    for (call, status, printed) in rows {
+        let mut desk = desk_with(alloc, TWO_SETS)?;
+        desk.fail_at(call, 1)?;
+        assert_eq!(rt; status_of(alloc, &["--root", "m"], &mut desk)?, status);
+        assert_eq!(rt; desk.out(), printed.as_bytes());
+        assert_eq!(rt; desk.faults(), 1);
     }
     Ok(())
 }

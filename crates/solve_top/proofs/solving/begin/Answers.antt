@@ -1,8 +1,11 @@
-use Rattle.std.proofs.Common.{refl}
+use Rattle.std.proofs.Common.{Option, List, ℕ, subst}
+use Rattle.solve_top.specs.declared.words.Task.{Task}
+use Rattle.solve_top.specs.Run.{Begins}
+use Rattle.solve_top.proofs.Files.{begins_without_memory}
 use Rattle.solve_top.proofs.solving.begin.Goals as goal
 
-pub returns-in-Some : goal.returns-in-Some
-returns-in-Some g c = rw (← c.in-Some.ensures) c.read_and_solve.ensures
+pub returns-in-Ok-clause-begins : goal.returns-in-Ok-clause-begins
+returns-in-Ok-clause-begins g c = rw (← c.in-Ok.ensures) c.begin_command.ensures.begins
 
-pub returns-in-None : goal.returns-in-None
-returns-in-None g c = rw (← c.in-None.ensures) (record { status = refl; text = refl; state = refl; faults = refl })
+pub returns-in-Err-clause-begins : goal.returns-in-Err-clause-begins
+returns-in-Err-clause-begins g c = begins_without_memory _ _ _
