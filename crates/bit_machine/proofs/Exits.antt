@@ -18,7 +18,7 @@ use Rattle.diagram_arena.specs.Arena.{table, CanMake, Grows, Joins}
 use Rattle.diagram_arena.proofs.Meaning.{live_from}
 use Rattle.diagram_arena.proofs.Reach.{reaches_only}
 use Rattle.node_reclaim.specs.Pool.{PoolState}
-use Rattle.diagram_ops.specs.Words.{Stays, NewArePartsOf, NewReachOnly}
+use Rattle.node_reclaim.specs.Growth.{Stays, NewArePartsOf, NewReachOnly}
 use Rattle.diagram_ops.proofs.Steps.{stays_self, stays_then, parts_of_part, same_part, made_part, news_reach}
 use Rattle.bit_machine.specs.Rules.{Rules}
 use Rattle.bit_machine.specs.Built.{accepts_from, IsBuilt, same_position, AreBuilt, BuiltFrom}

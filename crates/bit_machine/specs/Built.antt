@@ -1,7 +1,6 @@
 -- What a build makes from a place and a state on.
 use Rattle.std.specs.Prelude.{◌≡◌, ◌==◌, ℕ, ◌^◌, ◌≤◌, Bool, ◌&&◌, List, drop, Result, Some, Err, IfOk}
 use Rattle.std.specs.List.{All}
-use Rattle.std.specs.FinMap as map
 use Rattle.std.specs.Map.{lookup}
 use Rattle.diagram_arena.specs.declared.nodes.Ref.{Ref}
 use Rattle.diagram_arena.specs.declared.nodes.Stop.{Stop}
@@ -9,7 +8,8 @@ use Rattle.diagram_arena.specs.declared.nodes.Stop.TheVariants.{Full}
 use Rattle.diagram_arena.specs.Table.{Words, Table, depth}
 use Rattle.diagram_arena.specs.Arena.{table}
 use Rattle.node_reclaim.specs.Pool.{PoolState}
-use Rattle.diagram_ops.specs.Words.{Denotes, Stays, NewArePartsOf}
+use Rattle.node_reclaim.specs.Growth.{IsFull, Stays, NewArePartsOf}
+use Rattle.diagram_ops.specs.Words.{Denotes}
 use Rattle.bit_machine.specs.Rules.{Rules, run}
 
 -- r asks no bit before those of the list
@@ -37,5 +37,5 @@ AreBuilt {Q} t rules bits same entries = (at : ℕ) (q : Q) (r : Ref) → lookup
 pub record BuiltFrom {Q : Type 0} (old new : PoolState) (rules : Rules Q) (bits : List ℕ) (at : ℕ) (q : Q) (result : Result Ref Stop) : Type 0 where
   pub built : IfOk result (IsBuilt (table new.arena) rules bits at q)
   pub stays : Stays old new
-  pub full : result ≡ Err Full → map.len new.arena.nodes ≡ new.arena.limit
+  pub full : result ≡ Err Full → IsFull new
   pub parts : NewArePartsOf (table old.arena) (table new.arena) (accepts_from rules bits at q)

@@ -2,12 +2,12 @@
 ghost use Rattle.std.specs.Prelude.{◌≡◌, ℕ, ◌<◌, ◌≤◌, length, cond, Some, IfOk, IfSome, IfNone, OnOk};
 ghost use Rattle.std.specs.List.{AllPass};
 ghost use Rattle.std.specs.List.Sorted.{IsStrictlyIncreasing};
-ghost use Rattle.std.specs.FinMap as map;
 ghost use Rattle.std.specs.Map.{lookup};
 ghost use Rattle.diagram_arena.specs.Table.{IsReduced};
 ghost use Rattle.diagram_arena.specs.Reach.{Bits, ReachesOnly};
 ghost use Rattle.diagram_arena.specs.Arena.{table};
-ghost use Rattle.diagram_ops.specs.Words.{Denotes, Stays, NewArePartsOf, NewReachOnly};
+ghost use Rattle.node_reclaim.specs.Growth.{IsFull, Stays, NewArePartsOf, NewReachOnly};
+ghost use Rattle.diagram_ops.specs.Words.{Denotes};
 ghost use Rattle.bit_machine.specs.Rules.{accepts, most_bits};
 ghost use Rattle.bit_machine.specs.Built.{AsksNoneBefore, IsBuilt, same_position, AreBuilt, BuiltFrom};
 
@@ -38,7 +38,7 @@ pub fn build<M: Machine>(
     ensures words { IfOk result (Denotes (table ops.new.arena) (accepts (M.rules machine.now) bits.now)) }
     ensures deep { IfOk result (AsksNoneBefore (table ops.new.arena) bits.now) }
     ensures stays { Stays ops.old ops.new }
-    ensures full { result ≡ Err Stop.Full → map.len ops.new.arena.nodes ≡ ops.new.arena.limit }
+    ensures full { result ≡ Err Stop.Full → IsFull ops.new }
     ensures parts { NewArePartsOf (table ops.old.arena) (table ops.new.arena) (accepts (M.rules machine.now) bits.now) }
     ensures asks { (set : Bits) → AllPass set bits.now → IfOk result (ReachesOnly (table ops.new.arena) set) }
     ensures reach { (set : Bits) → AllPass set bits.now → NewReachOnly (table ops.old.arena) (table ops.new.arena) set }

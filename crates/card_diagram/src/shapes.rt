@@ -1,8 +1,7 @@
 //! The diagram of a cardinality.
 ghost use Rattle.std.specs.Prelude.{◌≡◌, ℕ, ◌≤◌, true, length, List, Err, IfOk};
-ghost use Rattle.std.specs.FinMap as map;
 ghost use Rattle.diagram_arena.specs.Arena.{table};
-ghost use Rattle.diagram_ops.specs.Words.{Stays};
+ghost use Rattle.node_reclaim.specs.Growth.{IsFull, Stays};
 ghost use Rattle.bit_machine.specs.Rules.{most_bits};
 ghost use Rattle.set_meaning.specs.Relations.{HoldsOf};
 ghost use Rattle.set_meaning.specs.Rows.{FitsRow};
@@ -46,7 +45,7 @@ pub fn card_shape(
     requires few { (bits : List ℕ) → AreBitsOf layout.now (variables_in c.now.args) bits → length bits ≤ most_bits }
     ensures diagram { IfOk result (IsDiagramOf layout.now (variables_in c.now.args) (HoldsOf c.now.relation c.now.args) (table ops.new.arena)) }
     ensures stays { Stays ops.old ops.new }
-    ensures full { result ≡ Err Stop.Full → map.len ops.new.arena.nodes ≡ ops.new.arena.limit }
+    ensures full { result ≡ Err Stop.Full → IsFull ops.new }
     ensures parts { NewArePartsOfWords layout.now (variables_in c.now.args) (HoldsOf c.now.relation c.now.args) (table ops.old.arena) (table ops.new.arena) }
     ensures reach { NewReachOnlyScope layout.now (variables_in c.now.args) (table ops.old.arena) (table ops.new.arena) }
 {

@@ -12,9 +12,10 @@ use Rattle.diagram_arena.specs.Part.{IsPartOf}
 use Rattle.diagram_arena.specs.Arena.{table, CanMake, Joins}
 use Rattle.node_reclaim.specs.Pool.{PoolState}
 use Rattle.diagram_ops.specs.declared.question.Question.{Question}
-use Rattle.diagram_ops.specs.Words.{Stays, NewArePartsOf}
+use Rattle.node_reclaim.specs.Growth.{Stays, NewArePartsOf}
 use Rattle.diagram_ops.specs.Steps.{side, first, AreLive, asked, IsAnswer, IsStep, Answered}
-use Rattle.diagram_ops.proofs.Steps.{NewAre, stays_self, stays_then, no_news, news_then, parts_of_part, answer_grows, live_grows, step_grows, side_part, same_asked, first_grows, first_within, joined_answer, can_join, made_part}
+use Rattle.node_reclaim.specs.Growth.{NewAre}
+use Rattle.diagram_ops.proofs.Steps.{stays_self, stays_then, no_news, news_then, parts_of_part, answer_grows, live_grows, step_grows, side_part, same_asked, first_grows, first_within, joined_answer, can_join, made_part}
 
 -- what was there stands, and each new node has the property P
 pub record Sofar (old new : PoolState) (P : Words → Type 0) : Type 0 where

@@ -17,7 +17,8 @@ use Rattle.diagram_arena.proofs.Meaning.{depth_within}
 use Rattle.diagram_arena.proofs.Parts.{part_self}
 use Rattle.diagram_arena.proofs.Reach.{depends_only, reaches_only, part_depends}
 use Rattle.node_reclaim.specs.Pool.{PoolState}
-use Rattle.diagram_ops.specs.Words.{common, IsProjection, IsPartOfProjection, Stays, NewReachOnly}
+use Rattle.node_reclaim.specs.Growth.{Stays, NewReachOnly}
+use Rattle.diagram_ops.specs.Words.{common, IsProjection, IsPartOfProjection}
 use Rattle.diagram_ops.specs.Steps.{IsSplit, sides_joined, SidesJoined, IsProjected, AreProjected, Projected}
 use Rattle.diagram_ops.proofs.Steps.{stays_self, stays_then}
 use Rattle.diagram_ops.proofs.Exits.{Sofar, sofar_then, fall_by}

@@ -23,7 +23,8 @@ use Rattle.diagram_ops.specs.declared.question.Op.{Op}
 use Rattle.diagram_ops.specs.declared.question.Op.TheVariants.{Diff}
 use Rattle.diagram_ops.specs.declared.question.Question.{Question}
 use Rattle.diagram_ops.specs.declared.question.Question.TheVariants.{Combine, Restrict}
-use Rattle.diagram_ops.specs.Words.{complement, words_with, joined, restricted, all_but, Denotes, IsAsDeep, NewAreUnmarked, NewArePartsOf, NewReachOnly}
+use Rattle.node_reclaim.specs.Growth.{NewAreUnmarked, NewArePartsOf, NewReachOnly}
+use Rattle.diagram_ops.specs.Words.{complement, words_with, joined, restricted, all_but, Denotes, IsAsDeep}
 use Rattle.diagram_ops.specs.Steps.{combine, asked, AreLive, Answered}
 use Rattle.diagram_ops.proofs.Steps.{same_part, news_reach, asked_grows}
 

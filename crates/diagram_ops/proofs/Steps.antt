@@ -19,7 +19,7 @@ use Rattle.diagram_arena.proofs.Reach.{reaches_only, part_depends}
 use Rattle.node_reclaim.specs.Pool.{PoolState}
 use Rattle.diagram_ops.specs.declared.question.Question.{Question}
 use Rattle.diagram_ops.specs.declared.question.Question.TheVariants.{Combine, Restrict}
-use Rattle.diagram_ops.specs.Words.{NewAreUnmarked, Stays, NewArePartsOf, NewReachOnly}
+use Rattle.node_reclaim.specs.Growth.{NewAreUnmarked, Stays, NewArePartsOf, NewReachOnly}
 use Rattle.diagram_ops.specs.Steps.{combine, side, first, AreLive, asked, IsAnswer, IsStep}
 
 -- tables that grow one after another
@@ -60,6 +60,8 @@ stays_self s ok = record {
   untagged = λ i n none is. let no : None ≡ Some n = sym none ∙ is in absurd (cc);
   limit = refl;
   counts = refl;
+  units = refl;
+  made = refl;
 }
 
 pub stays_then : (a b c : PoolState) → Stays a b → Stays b c → Stays a c
@@ -71,11 +73,9 @@ stays_then a b c first second = record {
   untagged = untagged_then a.arena b.arena c.arena second.keeps first.untagged second.untagged;
   limit = second.limit ∙ first.limit;
   counts = second.counts ∙ first.counts;
+  units = second.units ∙ first.units;
+  made = let e = first.made in let f = second.made in omega (arith, e, f);
 }
-
--- each new node has this property
-abbrev pub NewAre : Table → Table → (Words → Type 0) → Type 0
-NewAre old new P = (i : NodeId) → old i ≡ None → IsLive new (Node i) → P (has new (Node i))
 
 -- in one table there is no new node
 pub no_news : (t : Table) (P : Words → Type 0) → NewAre t t P

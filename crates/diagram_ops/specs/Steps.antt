@@ -1,6 +1,5 @@
 -- A question to diagrams, its answer, and a step of the recursion that finds it.
 use Rattle.std.specs.Prelude.{◌≡◌, ℕ, ◌+◌, ◌<◌, ◌≤◌, Bool, not, ◌&&◌, ◌||◌, ◌==◌, cond, min, if◌then◌else◌, List, Option, Some, None, Result, Err, IfOk}
-use Rattle.std.specs.FinMap as map
 use Rattle.std.specs.Map.{lookup}
 use Rattle.diagram_arena.specs.declared.nodes.Ref.{Ref}
 use Rattle.diagram_arena.specs.declared.nodes.Ref.TheVariants as ref
@@ -16,7 +15,8 @@ use Rattle.diagram_ops.specs.declared.question.Op.{Op}
 use Rattle.diagram_ops.specs.declared.question.Op.TheVariants.{And, Or, Diff}
 use Rattle.diagram_ops.specs.declared.question.Question.{Question}
 use Rattle.diagram_ops.specs.declared.question.Question.TheVariants.{Combine, Restrict}
-use Rattle.diagram_ops.specs.Words.{joined, either, restricted, IsProjection, Denotes, Stays, NewArePartsOf, NewArePartsOfProjections}
+use Rattle.node_reclaim.specs.Growth.{IsFull, Stays, NewArePartsOf}
+use Rattle.diagram_ops.specs.Words.{joined, either, restricted, IsProjection, Denotes, NewArePartsOfProjections}
 
 -- an operation at one word
 abbrev pub combine : Op → Bool → Bool → Bool
@@ -108,7 +108,7 @@ pub record Answered (old new : PoolState) (q : Question) (result : Result Ref St
   pub reduced : IsReduced (table old.arena)
   pub answer : IfOk result (IsAnswer (table new.arena) q)
   pub stays : Stays old new
-  pub full : result ≡ Err Full → map.len new.arena.nodes ≡ new.arena.limit
+  pub full : result ≡ Err Full → IsFull new
   pub parts : NewArePartsOf (table old.arena) (table new.arena) (asked (table old.arena) q)
 
 -- the projection of a node from those of both sides: where its bit is kept, each on its side; else their union
@@ -120,7 +120,7 @@ pub record SidesJoined (old new : PoolState) (keep : List ℕ) (bit : ℕ) (lo h
   pub words : IfOk result (Denotes (table new.arena) (sides_joined (among keep) bit (has (table old.arena) lo) (has (table old.arena) hi)))
   pub deep : IfOk result (λ r. bit ≤ depth (table new.arena) r)
   pub stays : Stays old new
-  pub full : result ≡ Err Full → map.len new.arena.nodes ≡ new.arena.limit
+  pub full : result ≡ Err Full → IsFull new
   pub parts : NewArePartsOf (table old.arena) (table new.arena) (sides_joined (among keep) bit (has (table old.arena) lo) (has (table old.arena) hi))
 
 -- r is the projection of f, in one table
@@ -139,5 +139,5 @@ pub record Projected (old new : PoolState) (keep : List ℕ) (f : Ref) (result :
   pub reduced : IsReduced (table old.arena)
   pub answer : IfOk result (IsProjected (table new.arena) keep f)
   pub stays : Stays old new
-  pub full : result ≡ Err Full → map.len new.arena.nodes ≡ new.arena.limit
+  pub full : result ≡ Err Full → IsFull new
   pub parts : NewArePartsOfProjections (table old.arena) (table new.arena) (among keep) (has (table old.arena) f)

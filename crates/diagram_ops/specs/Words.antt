@@ -11,10 +11,6 @@ use Rattle.diagram_arena.specs.Reach.{Bits, ReachesOnly}
 use Rattle.diagram_arena.specs.Arena.{ArenaState, table, KeepsNodes, NewAreUntagged, Grows}
 use Rattle.node_reclaim.specs.Pool.{PoolState}
 
--- the words of a ref of a pool
-abbrev pub words_of : PoolState → Ref → Words
-words_of s r = has (table s.arena) r
-
 -- intersection, union, difference and complement
 abbrev pub both : Words → Words → Words
 both V W = λ w. V w && W w
@@ -82,29 +78,6 @@ pub record Denotes (t : Table) (V : Words) (r : Ref) : Type 0 where
 abbrev pub IsAsDeep : Table → Ref → Ref → Ref → Type 0
 IsAsDeep t f g r = (b : ℕ) → b ≤ depth t f → b ≤ depth t g → b ≤ depth t r
 
--- each node that was not there before has no mark
-abbrev pub NewAreUnmarked : ArenaState → ArenaState → Type 0
-NewAreUnmarked old new = (i : NodeId) (n : Stored) → map.get old.nodes i ≡ None → map.get new.nodes i ≡ Some n → n.mark ≡ false
-
--- every node that was there stands with its mark, its tag and its pins, every ref means what it meant, and new nodes
--- have no mark and tag 0
-pub record Stays (old new : PoolState) : Type 0 where
-  pub reduced : IsReduced (table new.arena)
-  pub grows : Grows (table old.arena) (table new.arena)
-  pub keeps : KeepsNodes old.arena new.arena
-  pub unmarked : NewAreUnmarked old.arena new.arena
-  pub untagged : NewAreUntagged old.arena new.arena
-  pub limit : new.arena.limit ≡ old.arena.limit
-  pub counts : new.counts ≡ old.counts
-
--- each new node is a part of V
-abbrev pub NewArePartsOf : Table → Table → Words → Type 0
-NewArePartsOf old new V = (i : NodeId) → old i ≡ None → IsLive new (Node i) → IsPartOf (has new (Node i)) V
-
 -- each new node is a part of the projection of a part of V
 abbrev pub NewArePartsOfProjections : Table → Table → Bits → Words → Type 0
 NewArePartsOfProjections old new bits V = (i : NodeId) → old i ≡ None → IsLive new (Node i) → IsPartOfProjection bits (has new (Node i)) V
-
--- each new node reaches only these bits
-abbrev pub NewReachOnly : Table → Table → Bits → Type 0
-NewReachOnly old new bits = (i : NodeId) → old i ≡ None → IsLive new (Node i) → ReachesOnly new bits (Node i)

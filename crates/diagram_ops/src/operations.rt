@@ -7,7 +7,8 @@ ghost use Rattle.diagram_arena.specs.Table.{IsLive, IsReduced, depth};
 ghost use Rattle.diagram_arena.specs.Reach.{Bits, ReachesOnly};
 ghost use Rattle.diagram_arena.specs.Arena.{most_nodes, table, CanMake, IsNeeded, IsMade, Joins, ChangesNode};
 ghost use Rattle.node_reclaim.specs.Pool.{pins_of, Pins, Unpins, IsPinned};
-ghost use Rattle.diagram_ops.specs.Words.{words_of, both, either, without, complement, Lies, Leaves, words_with, joined, restricted, all_but, Denotes, IsAsDeep, Stays, NewArePartsOf, NewReachOnly};
+ghost use Rattle.node_reclaim.specs.Growth.{IsFull, words_of, Stays, NewArePartsOf, NewReachOnly};
+ghost use Rattle.diagram_ops.specs.Words.{both, either, without, complement, Lies, Leaves, words_with, joined, restricted, all_but, Denotes, IsAsDeep};
 ghost use Rattle.diagram_ops.specs.Steps.{first, AreLive, HasStep, IsAnswer, IsStep, Answered};
 
 use crate::question::{Op, Question};
@@ -100,7 +101,7 @@ impl Ops {
         ensures words { IfOk result (Denotes (table self.new.arena) (words_with bit value)) }
         ensures deep { IfOk result (λ r. bit ≤ depth (table self.new.arena) r) }
         ensures stays { Stays self.old self.new }
-        ensures full { result ≡ Err Stop.Full → map.len self.new.arena.nodes ≡ self.new.arena.limit }
+        ensures full { result ≡ Err Stop.Full → IsFull self.new }
         ensures parts { NewArePartsOf (table self.old.arena) (table self.new.arena) (words_with bit value) }
         ensures asks { (bits : Bits) → bits bit ≡ true → IfOk result (ReachesOnly (table self.new.arena) bits) }
         ensures reach { (bits : Bits) → bits bit ≡ true → NewReachOnly (table self.old.arena) (table self.new.arena) bits }
@@ -118,7 +119,7 @@ impl Ops {
         ensures words { IfOk result (Denotes (table self.new.arena) (complement (words_of self.old f))) }
         ensures deep { IfOk result (λ r. depth (table self.old.arena) f ≤ depth (table self.new.arena) r) }
         ensures stays { Stays self.old self.new }
-        ensures full { result ≡ Err Stop.Full → map.len self.new.arena.nodes ≡ self.new.arena.limit }
+        ensures full { result ≡ Err Stop.Full → IsFull self.new }
         ensures parts { NewArePartsOf (table self.old.arena) (table self.new.arena) (complement (words_of self.old f)) }
         ensures asks { (bits : Bits) → ReachesOnly (table self.old.arena) bits f → IfOk result (ReachesOnly (table self.new.arena) bits) }
         ensures reach { (bits : Bits) → ReachesOnly (table self.old.arena) bits f → NewReachOnly (table self.old.arena) (table self.new.arena) bits }
@@ -133,7 +134,7 @@ impl Ops {
         ensures words { IfOk result (Denotes (table self.new.arena) (both (words_of self.old f) (words_of self.old g))) }
         ensures deep { IfOk result (IsAsDeep (table self.new.arena) f g) }
         ensures stays { Stays self.old self.new }
-        ensures full { result ≡ Err Stop.Full → map.len self.new.arena.nodes ≡ self.new.arena.limit }
+        ensures full { result ≡ Err Stop.Full → IsFull self.new }
         ensures parts { NewArePartsOf (table self.old.arena) (table self.new.arena) (both (words_of self.old f) (words_of self.old g)) }
         ensures asks { (bits : Bits) → ReachesOnly (table self.old.arena) bits f → ReachesOnly (table self.old.arena) bits g → IfOk result (ReachesOnly (table self.new.arena) bits) }
         ensures reach { (bits : Bits) → ReachesOnly (table self.old.arena) bits f → ReachesOnly (table self.old.arena) bits g → NewReachOnly (table self.old.arena) (table self.new.arena) bits }
@@ -148,7 +149,7 @@ impl Ops {
         ensures words { IfOk result (Denotes (table self.new.arena) (either (words_of self.old f) (words_of self.old g))) }
         ensures deep { IfOk result (IsAsDeep (table self.new.arena) f g) }
         ensures stays { Stays self.old self.new }
-        ensures full { result ≡ Err Stop.Full → map.len self.new.arena.nodes ≡ self.new.arena.limit }
+        ensures full { result ≡ Err Stop.Full → IsFull self.new }
         ensures parts { NewArePartsOf (table self.old.arena) (table self.new.arena) (either (words_of self.old f) (words_of self.old g)) }
         ensures asks { (bits : Bits) → ReachesOnly (table self.old.arena) bits f → ReachesOnly (table self.old.arena) bits g → IfOk result (ReachesOnly (table self.new.arena) bits) }
         ensures reach { (bits : Bits) → ReachesOnly (table self.old.arena) bits f → ReachesOnly (table self.old.arena) bits g → NewReachOnly (table self.old.arena) (table self.new.arena) bits }
@@ -163,7 +164,7 @@ impl Ops {
         ensures words { IfOk result (Denotes (table self.new.arena) (without (words_of self.old f) (words_of self.old g))) }
         ensures deep { IfOk result (IsAsDeep (table self.new.arena) f g) }
         ensures stays { Stays self.old self.new }
-        ensures full { result ≡ Err Stop.Full → map.len self.new.arena.nodes ≡ self.new.arena.limit }
+        ensures full { result ≡ Err Stop.Full → IsFull self.new }
         ensures parts { NewArePartsOf (table self.old.arena) (table self.new.arena) (without (words_of self.old f) (words_of self.old g)) }
         ensures asks { (bits : Bits) → ReachesOnly (table self.old.arena) bits f → ReachesOnly (table self.old.arena) bits g → IfOk result (ReachesOnly (table self.new.arena) bits) }
         ensures reach { (bits : Bits) → ReachesOnly (table self.old.arena) bits f → ReachesOnly (table self.old.arena) bits g → NewReachOnly (table self.old.arena) (table self.new.arena) bits }
@@ -178,7 +179,7 @@ impl Ops {
         ensures words { IfOk result (Denotes (table self.new.arena) (restricted (words_of self.old f) bit value)) }
         ensures deep { IfOk result (λ r. depth (table self.old.arena) f ≤ depth (table self.new.arena) r) }
         ensures stays { Stays self.old self.new }
-        ensures full { result ≡ Err Stop.Full → map.len self.new.arena.nodes ≡ self.new.arena.limit }
+        ensures full { result ≡ Err Stop.Full → IsFull self.new }
         ensures parts { NewArePartsOf (table self.old.arena) (table self.new.arena) (restricted (words_of self.old f) bit value) }
         ensures asks { (bits : Bits) → ReachesOnly (table self.old.arena) bits f → IfOk result (ReachesOnly (table self.new.arena) (all_but bit bits)) }
         ensures reach { (bits : Bits) → ReachesOnly (table self.old.arena) bits f → NewReachOnly (table self.old.arena) (table self.new.arena) (all_but bit bits) }
@@ -192,7 +193,7 @@ impl Ops {
         requires g_live { IsLive (table self.old.arena) g }
         ensures inside { IfOk result (λ holds. MatchBool holds (Lies (words_of self.old f) (words_of self.old g)) (Leaves (words_of self.old f) (words_of self.old g))) }
         ensures stays { Stays self.old self.new }
-        ensures full { result ≡ Err Stop.Full → map.len self.new.arena.nodes ≡ self.new.arena.limit }
+        ensures full { result ≡ Err Stop.Full → IsFull self.new }
         ensures parts { NewArePartsOf (table self.old.arena) (table self.new.arena) (without (words_of self.old f) (words_of self.old g)) }
         ensures reach { (bits : Bits) → ReachesOnly (table self.old.arena) bits f → ReachesOnly (table self.old.arena) bits g → NewReachOnly (table self.old.arena) (table self.new.arena) bits }
     {
@@ -230,7 +231,7 @@ impl Ops {
 
         // What is answered, and why it is refused.
         ensures made { IfOk result (IsMade self.old.arena self.new.arena bit lo hi) }
-        ensures full { (result ≡ Err Stop.Full) ↔ (IsNeeded (table self.old.arena) bit lo hi × (map.len self.old.arena.nodes ≡ self.old.arena.limit)) }
+        ensures full { (result ≡ Err Stop.Full) ↔ (IsNeeded (table self.old.arena) bit lo hi × (IsFull self.old)) }
         ensures needed { OnErr result (IsNeeded (table self.old.arena) bit lo hi) }
         ensures err { OnErr result (self.new ≡ self.old) }
 

@@ -2,12 +2,12 @@
 ghost use Rattle.std.specs.Prelude.{◌≡◌, ◌<◌, ◌≤◌, ℕ, true, IsTrue, IfOk, IfSome, IfNone, OnOk, cond, Some};
 ghost use Rattle.std.specs.Map.{lookup};
 ghost use Rattle.std.specs.List.Sorted.{IsStrictlyIncreasing};
-ghost use Rattle.std.specs.FinMap as map;
 ghost use Rattle.diagram_arena.specs.contracts.nodes.RefPartialEq.TheImpl.{eq-value as ref_eq};
 ghost use Rattle.diagram_arena.specs.Table.{IsLive, IsReduced, depth};
 ghost use Rattle.diagram_arena.specs.Reach.{Bits, ReachesOnly, among};
 ghost use Rattle.diagram_arena.specs.Arena.{table, CanMake};
-ghost use Rattle.diagram_ops.specs.Words.{words_of, common, IsProjection, Stays, NewArePartsOfProjections, NewReachOnly};
+ghost use Rattle.node_reclaim.specs.Growth.{IsFull, words_of, Stays, NewReachOnly};
+ghost use Rattle.diagram_ops.specs.Words.{common, IsProjection, NewArePartsOfProjections};
 ghost use Rattle.diagram_ops.specs.Steps.{IsNode, IsSplit, SidesJoined, IsProjected, AreProjected, Projected};
 
 use crate::operations::Ops;
@@ -28,7 +28,7 @@ impl Ops {
         ensures words { IfOk result (λ r. IsProjection (among keep.now) (words_of self.old f) (words_of self.new r)) }
         ensures deep { IfOk result (λ r. depth (table self.old.arena) f ≤ depth (table self.new.arena) r) }
         ensures stays { Stays self.old self.new }
-        ensures full { result ≡ Err Stop.Full → map.len self.new.arena.nodes ≡ self.new.arena.limit }
+        ensures full { result ≡ Err Stop.Full → IsFull self.new }
         ensures parts { NewArePartsOfProjections (table self.old.arena) (table self.new.arena) (among keep.now) (words_of self.old f) }
         ensures asks { (bits : Bits) → ReachesOnly (table self.old.arena) bits f → IfOk result (ReachesOnly (table self.new.arena) (common bits (among keep.now))) }
         ensures reach { (bits : Bits) → ReachesOnly (table self.old.arena) bits f → NewReachOnly (table self.old.arena) (table self.new.arena) (common bits (among keep.now)) }

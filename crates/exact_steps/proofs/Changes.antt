@@ -18,7 +18,8 @@ use Rattle.diagram_arena.specs.Table.{Words, Table, has, IsLive, IsReduced}
 use Rattle.diagram_arena.specs.Reach.{among}
 use Rattle.diagram_arena.specs.Arena.{table, Grows}
 use Rattle.node_reclaim.specs.Pool.{PoolState}
-use Rattle.diagram_ops.specs.Words.{IsProjection, IsPartOfProjection, Stays, NewArePartsOfProjections}
+use Rattle.node_reclaim.specs.Growth.{Stays}
+use Rattle.diagram_ops.specs.Words.{IsProjection, IsPartOfProjection, NewArePartsOfProjections}
 use Rattle.diagram_ops.proofs.Steps.{stays_self, stays_then, no_news, news_then}
 use Rattle.scope_words.specs.Words.{bits_at}
 use Rattle.exact_steps.specs.Steps.{narrowed_in}

@@ -22,7 +22,8 @@ use Rattle.diagram_arena.specs.Arena.{table, Grows}
 use Rattle.diagram_arena.proofs.Meaning.{has-zero}
 use Rattle.diagram_arena.proofs.Canonical.{canonical}
 use Rattle.node_reclaim.specs.Pool.{PoolState}
-use Rattle.diagram_ops.specs.Words.{IsProjection, Stays}
+use Rattle.node_reclaim.specs.Growth.{Stays}
+use Rattle.diagram_ops.specs.Words.{IsProjection}
 use Rattle.diagram_ops.proofs.Insides.{has_word}
 use Rattle.diagram_ops.proofs.Steps.{stays_self, stays_then}
 use Rattle.search_rules.specs.Family.{Leaves as Leaving, HasValue}

@@ -18,7 +18,8 @@ use Rattle.diagram_arena.specs.Reach.{Bits, among, DependsOn}
 use Rattle.diagram_arena.specs.Arena.{table, Grows}
 use Rattle.diagram_arena.proofs.Reach.{reaches_only, part_depends}
 use Rattle.node_reclaim.specs.Pool.{PoolState}
-use Rattle.diagram_ops.specs.Words.{both, Denotes, IsProjection, Stays, NewArePartsOf}
+use Rattle.node_reclaim.specs.Growth.{Stays, NewArePartsOf}
+use Rattle.diagram_ops.specs.Words.{both, Denotes, IsProjection}
 use Rattle.diagram_ops.proofs.Steps.{stays_self, stays_then, no_news, news_then}
 use Rattle.search_rules.specs.Family.{HasValue}
 use Rattle.scope_words.specs.Words.{bits_at, Gives, IsBitOf, AreBitsOf, AreWordsOf, IsDiagramOf, NewReachOnlyScope}

@@ -12,7 +12,8 @@ use Rattle.diagram_arena.specs.Table.{Words, Table, has, IsLive}
 use Rattle.diagram_arena.specs.Reach.{among}
 use Rattle.diagram_arena.specs.Arena.{table}
 use Rattle.node_reclaim.specs.Pool.{PoolState}
-use Rattle.diagram_ops.specs.Words.{IsProjection, IsPartOfProjection, Stays}
+use Rattle.node_reclaim.specs.Growth.{Stays}
+use Rattle.diagram_ops.specs.Words.{IsProjection, IsPartOfProjection}
 use Rattle.scope_words.specs.Words.{bits_at, IsDiagramOf}
 use Rattle.exact_steps.specs.Domains.{family}
 use Rattle.exact_steps.specs.Steps.{IsInDiagram, narrowed_in}

@@ -1,11 +1,11 @@
 //! The join of a constraint with the domains of its scope.
 ghost use Rattle.std.specs.Prelude.{◌≡◌, ◌<◌, IfOk, Some, length, slice_get, All};
-ghost use Rattle.std.specs.FinMap as map;
 ghost use Rattle.diagram_arena.specs.Arena.{table};
 ghost use Rattle.scope_words.specs.Words.{IsDiagramOf};
 ghost use Rattle.exact_steps.specs.Domains.{AreDomains};
 ghost use Rattle.exact_steps.specs.Steps.{IsInDiagram};
 ghost use Rattle.exact_steps.specs.Work.{Leaves, stated, given, IsJoined};
+ghost use Rattle.node_reclaim.specs.Growth.{IsFull};
 
 use bit_layout::Layout;
 use diagram_arena::{Ref, Stop};
@@ -25,7 +25,7 @@ pub(crate) fn joined(
     requires domains { AreDomains layout.now (table ops.old.arena) domains.now }
     ensures join { IfOk result (IsJoined layout.now scope.now constraint domains.now ops.old (length scope.now) ops.new) }
     ensures leaves { Leaves layout.now scope.now (stated layout.now ops.old constraint) (given layout.now ops.old domains.now) ops.old ops.new }
-    ensures full { result ≡ Err Stop.Full → map.len ops.new.arena.nodes ≡ ops.new.arena.limit }
+    ensures full { result ≡ Err Stop.Full → IsFull ops.new }
 {
     // What holds of every layout and every pool.
     layout.obeys_order();

@@ -1,11 +1,10 @@
 //! The projection of a join to each variable of the scope.
 ghost use Rattle.std.specs.Prelude.{◌≡◌, ◌<◌, ◌++◌, ◌∷◌, [], IfOk, OnOk, Some, length, slice_get, All};
 ghost use Rattle.std.specs.Ordering.{nat_cmp};
-ghost use Rattle.std.specs.FinMap as map;
 ghost use Rattle.std.specs.List.Sorted.{IsStrictlyIncreasing, IsStrictlySortedBy};
 ghost use Rattle.diagram_arena.specs.Table.{IsLive, has};
 ghost use Rattle.diagram_arena.specs.Arena.{table};
-ghost use Rattle.diagram_ops.specs.Words.{Stays};
+ghost use Rattle.node_reclaim.specs.Growth.{IsFull, Stays};
 ghost use Rattle.scope_words.specs.Words.{bits_at};
 ghost use Rattle.exact_steps.specs.Work.{AreLive, NewAreProjected, IsProjecting, Keeps};
 
@@ -33,7 +32,7 @@ pub(crate) fn projected(
     requires long { length domains.now ≡ length layout.now.kinds }
     ensures kept { IfOk result (λ kept. IsProjecting layout.now scope.now join domains.now ops.old (length scope.now) ops.new kept.items) }
     ensures stays { Stays ops.old ops.new }
-    ensures full { result ≡ Err Stop.Full → map.len ops.new.arena.nodes ≡ ops.new.arena.limit }
+    ensures full { result ≡ Err Stop.Full → IsFull ops.new }
     ensures parts { NewAreProjected layout.now scope.now (has (table ops.old.arena) join) (table ops.old.arena) (table ops.new.arena) }
 {
     // What holds of every pool.

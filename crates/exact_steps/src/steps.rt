@@ -1,10 +1,9 @@
 //! The step: the constraint and the domains are joined, the join is projected to each variable, and what changed is listed.
 ghost use Rattle.std.specs.Prelude.{◌≡◌, ◌<◌, IfOk, length, All};
 ghost use Rattle.std.specs.Ordering.{nat_cmp};
-ghost use Rattle.std.specs.FinMap as map;
 ghost use Rattle.std.specs.List.Sorted.{IsStrictlySortedBy};
 ghost use Rattle.diagram_arena.specs.Arena.{table};
-ghost use Rattle.diagram_ops.specs.Words.{Stays};
+ghost use Rattle.node_reclaim.specs.Growth.{IsFull, Stays};
 ghost use Rattle.scope_words.specs.Words.{IsDiagramOf, NewReachOnlyScope};
 ghost use Rattle.exact_steps.specs.Domains.{AreDomains, family};
 ghost use Rattle.exact_steps.specs.Steps.{IsInDiagram, IsStepOf};
@@ -53,7 +52,7 @@ pub fn step(
     ensures answer { let t = table ops.old.arena in
         IfOk result (IsStepOf layout.now scope.now (IsInDiagram layout.now t constraint) (family layout.now t domains.now) (table ops.new.arena)) }
     ensures stays { Stays ops.old ops.new }
-    ensures full { result ≡ Err Stop.Full → map.len ops.new.arena.nodes ≡ ops.new.arena.limit }
+    ensures full { result ≡ Err Stop.Full → IsFull ops.new }
     ensures parts { let t = table ops.old.arena in
         NewAreWanted layout.now scope.now (IsInDiagram layout.now t constraint) (family layout.now t domains.now) t (table ops.new.arena) }
     ensures reach { NewReachOnlyScope layout.now scope.now (table ops.old.arena) (table ops.new.arena) }

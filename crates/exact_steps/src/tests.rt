@@ -5,7 +5,7 @@ ghost use Rattle.set_meaning.specs.declared.problems.VarId.{VarId as Variable};
 ghost use Rattle.set_meaning.specs.Sets.{ascending_set};
 ghost use Rattle.bit_layout.specs.Limits.{AreWithinLimits};
 ghost use Rattle.diagram_arena.specs.Arena.{table};
-ghost use Rattle.diagram_ops.specs.Words.{Stays};
+ghost use Rattle.node_reclaim.specs.Growth.{Stays};
 ghost use Rattle.scope_words.specs.Words.{IsSetKind, IsDiagramOf};
 ghost use Rattle.exact_steps.specs.Domains.{variable, IsDomain};
 ghost use Rattle.exact_steps.specs.Steps.{IsInDiagram};

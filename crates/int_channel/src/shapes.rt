@@ -1,9 +1,8 @@
 //! The diagram of a relation.
 ghost use Rattle.std.specs.Prelude.{◌≡◌, ℕ, ◌≤◌, true, length, List, Err, IfOk, IsTrue, All};
-ghost use Rattle.std.specs.FinMap as map;
 ghost use Rattle.std.specs.List.{AllZip, flat_map};
 ghost use Rattle.diagram_arena.specs.Arena.{table};
-ghost use Rattle.diagram_ops.specs.Words.{Stays};
+ghost use Rattle.node_reclaim.specs.Growth.{IsFull, Stays};
 ghost use Rattle.bit_machine.specs.Rules.{most_bits};
 ghost use Rattle.set_meaning.specs.Relations.{HoldsOf, terms_of};
 ghost use Rattle.set_meaning.specs.Rows.{ArePaired, FitsRow, HasShape, row_of, shapes_of};
@@ -95,7 +94,7 @@ pub fn scalar_shape(
     requires terms { length (flat_map terms_of c.now.args) ≤ 4194304 }
     ensures diagram { IfOk result (IsDiagramOf layout.now (variables_in c.now.args) (HoldsOf c.now.relation c.now.args) (table ops.new.arena)) }
     ensures stays { Stays ops.old ops.new }
-    ensures full { result ≡ Err Stop.Full → map.len ops.new.arena.nodes ≡ ops.new.arena.limit }
+    ensures full { result ≡ Err Stop.Full → IsFull ops.new }
     ensures parts { NewArePartsOfWords layout.now (variables_in c.now.args) (HoldsOf c.now.relation c.now.args) (table ops.old.arena) (table ops.new.arena) }
     ensures reach { NewReachOnlyScope layout.now (variables_in c.now.args) (table ops.old.arena) (table ops.new.arena) }
 {
@@ -128,7 +127,7 @@ fn shape_over(
     requires terms { length (flat_map terms_of args.now) ≤ 4194304 }
     ensures diagram { IfOk result (IsDiagramOf layout.now (variables_in args.now) (HoldsOf relation args.now) (table ops.new.arena)) }
     ensures stays { Stays ops.old ops.new }
-    ensures full { result ≡ Err Stop.Full → map.len ops.new.arena.nodes ≡ ops.new.arena.limit }
+    ensures full { result ≡ Err Stop.Full → IsFull ops.new }
     ensures parts { NewArePartsOfWords layout.now (variables_in args.now) (HoldsOf relation args.now) (table ops.old.arena) (table ops.new.arena) }
     ensures reach { NewReachOnlyScope layout.now (variables_in args.now) (table ops.old.arena) (table ops.new.arena) }
 {
@@ -156,7 +155,7 @@ fn built<M: Machine + Drop>(
     requires valid { IfOk made (λ m. M.valid m.machine.second) }
     ensures diagram { IfOk result (IsDiagramOf layout.now (variables_in args.now) (HoldsOf relation args.now) (table ops.new.arena)) }
     ensures stays { Stays ops.old ops.new }
-    ensures full { result ≡ Err Stop.Full → map.len ops.new.arena.nodes ≡ ops.new.arena.limit }
+    ensures full { result ≡ Err Stop.Full → IsFull ops.new }
     ensures parts { NewArePartsOfWords layout.now (variables_in args.now) (HoldsOf relation args.now) (table ops.old.arena) (table ops.new.arena) }
     ensures reach { NewReachOnlyScope layout.now (variables_in args.now) (table ops.old.arena) (table ops.new.arena) }
 {

@@ -14,13 +14,14 @@ use Rattle.diagram_arena.specs.declared.nodes.Stop.TheVariants.{Full, Memory}
 use Rattle.diagram_arena.specs.Table.{Table, id_cmp}
 use Rattle.diagram_arena.specs.Arena.{ArenaState, table, Grows}
 use Rattle.node_reclaim.specs.Pool.{PoolState, pins_of, times, Unpins}
-use Rattle.diagram_ops.specs.Words.{Stays}
+use Rattle.node_reclaim.specs.Growth.{Stays}
 use Rattle.diagram_ops.proofs.Steps.{stays_then}
-use Rattle.propagators.specs.Pins.{Gains, StaysButPins}
+use Rattle.node_reclaim.specs.Holders.{Gains, StaysButPins}
 use Rattle.propagators.specs.Compiled.{CompiledState, pinned_by, IsCompiled, IsDiagramOfConstraint}
 use Rattle.propagators.specs.Units.{AreDone}
 use Rattle.propagators.proofs.Moving.{compiled_grows}
-use Rattle.learn_search.specs.Pinned.{KeepsPins, LeavesPinned, PinsAfterStop}
+use Rattle.node_reclaim.specs.Holders.{KeepsPins}
+use Rattle.learn_search.specs.Pinned.{LeavesPinned, PinsAfterStop}
 
 -- a call that pins nothing leaves each node its pins
 pub same_pins : (old new : PoolState) → new.counts ≡ old.counts → KeepsPins old new

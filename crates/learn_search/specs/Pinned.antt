@@ -8,14 +8,10 @@ use Rattle.diagram_arena.specs.declared.nodes.Stop.{Stop}
 use Rattle.diagram_arena.specs.declared.nodes.Stop.TheVariants.{Full, Memory}
 use Rattle.diagram_arena.specs.Arena.{table}
 use Rattle.node_reclaim.specs.Pool.{PoolState, pins_of}
-use Rattle.propagators.specs.Pins.{Gains}
+use Rattle.node_reclaim.specs.Holders.{Gains}
 use Rattle.propagators.specs.Units.{AreDone}
 use Rattle.learn_search.specs.declared.search.SearchEnd.{SearchEnd}
 use Rattle.learn_search.specs.declared.search.SearchEnd.TheVariants as end
-
--- each node has as many pins as before
-abbrev pub KeepsPins : PoolState → PoolState → Type 0
-KeepsPins old new = (i : NodeId) → pins_of new i ≡ pins_of old i
 
 -- the domains of the initial values of the first variables, so many, and the diagrams of the first constraints, so many, have gained a pin
 -- each; nothing else was pinned

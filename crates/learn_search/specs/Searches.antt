@@ -23,10 +23,6 @@ search_code =
     code_by (Problem × (PoolState × Option SearchEnd)) (coded× problem_row.the_row.coded (coded× pool_code (coded_option end_row.the_row.coded)))
     (λ s. (s.problem, (s.pool, s.ended))) (λ x. record { problem = x.0; pool = x.1.0; ended = x.1.1 }) (λ _. refl)
 
--- there are as many nodes as the limit allows
-abbrev pub IsFull : PoolState → Type 0
-IsFull s = map.len s.arena.nodes ≡ s.arena.limit
-
 -- what holds of every search
 pub record IsSearch (s : SearchState) : Type 0 where
   pub limits : KeepsLimits s.problem

@@ -1,10 +1,9 @@
 //! From the initial domains to the root family: all constraints are taken again after each change.
 ghost use Rattle.std.specs.Prelude.{◌≡◌, ◌<◌, Err, IfOk, length, slice_set, All};
-ghost use Rattle.std.specs.FinMap as map;
 ghost use Rattle.set_meaning.specs.declared.problems.VarId.{VarId as Variable};
 ghost use Rattle.diagram_arena.specs.declared.nodes.Ref.{Ref as AnyRef};
 ghost use Rattle.diagram_arena.specs.Arena.{table};
-ghost use Rattle.diagram_ops.specs.Words.{Stays};
+ghost use Rattle.node_reclaim.specs.Growth.{IsFull, Stays};
 ghost use Rattle.problem_limits.specs.Limits.{KeepsLimits};
 ghost use Rattle.propagators.specs.Compiled.{IsCompiled};
 ghost use Rattle.learn_search.specs.Rounds.{IsOnWay, IsTaken, IsRound, IsFixed, put_each};
@@ -41,7 +40,7 @@ pub(crate) fn narrow(
     requires way { IsOnWay p.now layout.now (table ops.old.arena) domains.old.items }
     ensures fixed { IfOk result (IsFixed p.now layout.now (table ops.new.arena) domains.new.items) }
     ensures stays { Stays ops.old ops.new }
-    ensures full { result ≡ Err Stop.Full → map.len ops.new.arena.nodes ≡ ops.new.arena.limit }
+    ensures full { result ≡ Err Stop.Full → IsFull ops.new }
 {
     // What holds of every pool.
     let _ = ops.pool();
@@ -68,7 +67,7 @@ fn round(
     requires way { IsOnWay p.now layout.now (table ops.old.arena) domains.old.items }
     ensures round { IfOk result (IsRound p.now layout.now (table ops.old.arena) (table ops.new.arena) domains.old.items domains.new.items) }
     ensures stays { Stays ops.old ops.new }
-    ensures full { result ≡ Err Stop.Full → map.len ops.new.arena.nodes ≡ ops.new.arena.limit }
+    ensures full { result ≡ Err Stop.Full → IsFull ops.new }
 {
     // What holds of every pool.
     let _ = ops.pool();
@@ -109,7 +108,7 @@ fn take(
     requires way { IsOnWay p.now layout.now (table ops.old.arena) domains.old.items }
     ensures taken { IfOk result (IsTaken p.now layout.now (table ops.old.arena) (table ops.new.arena) c.0 domains.old.items domains.new.items) }
     ensures stays { Stays ops.old ops.new }
-    ensures full { result ≡ Err Stop.Full → map.len ops.new.arena.nodes ≡ ops.new.arena.limit }
+    ensures full { result ≡ Err Stop.Full → IsFull ops.new }
 {
     // What holds of every layout.
     layout.obeys_order();

@@ -1,15 +1,15 @@
 //! The root family of a problem, from its text to its rows.
 ghost use Rattle.std.specs.Prelude.{◌≡◌, Err, Some, IfOk, IfErr, OnOk};
-ghost use Rattle.std.specs.FinMap as map;
 ghost use Rattle.diagram_arena.specs.Arena.{table};
 ghost use Rattle.node_reclaim.specs.Pool.{Unpins};
-ghost use Rattle.diagram_ops.specs.Words.{Stays};
+ghost use Rattle.node_reclaim.specs.Growth.{Stays};
 ghost use Rattle.problem_limits.specs.Limits.{KeepsLimits};
 ghost use Rattle.propagators.specs.Compiled.{pinned_by, IsCompiled};
-ghost use Rattle.propagators.specs.Pins.{AreHeld, StaysButPins};
+ghost use Rattle.node_reclaim.specs.Holders.{AreHeld, StaysButPins};
 ghost use Rattle.learn_search.specs.Roots.{IsRootOf};
-ghost use Rattle.learn_search.specs.Searches.{IsFull};
-ghost use Rattle.learn_search.specs.Pinned.{KeepsPins, PinsAfterStop};
+ghost use Rattle.node_reclaim.specs.Growth.{IsFull};
+ghost use Rattle.node_reclaim.specs.Holders.{KeepsPins};
+ghost use Rattle.learn_search.specs.Pinned.{PinsAfterStop};
 
 use crate::narrowing::narrow;
 use crate::rows::rows;
@@ -73,7 +73,7 @@ fn found(
     requires compiled { IsCompiled layout.now p.now (table ops.old.arena) compiled.now }
     ensures means { IfOk result (IsRootOf p.now) }
     ensures stays { Stays ops.old ops.new }
-    ensures full { result ≡ Err Stop.Full → map.len ops.new.arena.nodes ≡ ops.new.arena.limit }
+    ensures full { result ≡ Err Stop.Full → IsFull ops.new }
 {
     // What holds of every layout and every pool.
     layout.obeys_order();

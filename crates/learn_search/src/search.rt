@@ -5,10 +5,12 @@ ghost use Rattle.set_meaning.specs.declared.problems.Problem.{Problem as AnyProb
 ghost use Rattle.diagram_arena.specs.Arena.{most_nodes};
 ghost use Rattle.node_reclaim.specs.Pool.{PoolState};
 ghost use Rattle.problem_limits.specs.Limits.{KeepsLimits};
-ghost use Rattle.propagators.specs.Pins.{StaysButPins};
+ghost use Rattle.node_reclaim.specs.Holders.{StaysButPins};
 ghost use Rattle.learn_search.specs.Roots.{IsRootOf};
-ghost use Rattle.learn_search.specs.Searches.{IsFull, IsLastOf};
-ghost use Rattle.learn_search.specs.Pinned.{KeepsPins, PinsAfterEnd, PinsAfterStop};
+ghost use Rattle.node_reclaim.specs.Growth.{IsFull};
+ghost use Rattle.learn_search.specs.Searches.{IsLastOf};
+ghost use Rattle.node_reclaim.specs.Holders.{KeepsPins};
+ghost use Rattle.learn_search.specs.Pinned.{PinsAfterEnd, PinsAfterStop};
 
 use crate::root::root_of;
 use desk::Desk;

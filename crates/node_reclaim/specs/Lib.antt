@@ -1,2 +1,4 @@
 pub mod Pool
 pub mod Body
+pub mod Growth
+pub mod Holders

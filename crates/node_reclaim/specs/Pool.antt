@@ -11,16 +11,25 @@ use Rattle.diagram_arena.specs.contracts.nodes.NodeId as id_row
 use Rattle.diagram_arena.specs.Table.{id_cmp, id_eq}
 use Rattle.diagram_arena.specs.Arena.{ArenaState, arena_code}
 
--- the arena, and the number of pins of each pinned node
+-- the arena, the number of pins of each pinned node, and how many units were begun and how many nodes made since nodes were
+-- last reclaimed
 pub record PoolState : Type 0 where
   pub arena : ArenaState
   pub counts : map.FinMap id_cmp ℕ
+  pub units : ℕ
+  pub made : ℕ
 
--- it is stored as the pair of the two
+-- it is stored as the tuple of its fields
 abbrev pub pool_code : Coded PoolState
 pool_code =
-    code_by (ArenaState × map.FinMap id_cmp ℕ) (coded× arena_code (map.code id_row.the_row.coded coded_ℕ))
-    (λ p. (p.arena, p.counts)) (λ x. record { arena = x.0; counts = x.1 }) (λ _. refl)
+    code_by (ArenaState × (map.FinMap id_cmp ℕ × (ℕ × ℕ)))
+    (coded× arena_code (coded× (map.code id_row.the_row.coded coded_ℕ) (coded× coded_ℕ coded_ℕ)))
+    (λ p. (p.arena, (p.counts, (p.units, p.made))))
+    (λ x. record { arena = x.0; counts = x.1.0; units = x.1.1.0; made = x.1.1.1 }) (λ _. refl)
+
+-- how many nodes there are
+abbrev pub node_count : PoolState → ℕ
+node_count p = map.len p.arena.nodes
 
 -- how many pins a node has
 abbrev pub pins_of : PoolState → NodeId → ℕ

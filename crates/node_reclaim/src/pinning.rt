@@ -1,11 +1,11 @@
 //! The pool: an arena, and a count of pins for each of its nodes.
-ghost use Rattle.std.specs.Prelude.{◌≡◌, ◌-◌, ◌^◌, ◌<◌, ◌≤◌, ◌↔◌, [], ◌∷◌, ◌++◌, replicate, IfOk, OnOk, OnErr, IsErr};
+ghost use Rattle.std.specs.Prelude.{◌≡◌, ◌+◌, ◌-◌, ◌^◌, ◌<◌, ◌≤◌, ◌↔◌, [], ◌∷◌, ◌++◌, replicate, min, IfOk, OnOk, OnErr, IsErr};
 ghost use Rattle.std.specs.FinMap as map;
 ghost use Rattle.diagram_arena.specs.declared.nodes.NodeId.{NodeId};
 ghost use Rattle.diagram_arena.specs.declared.nodes.Node.{Node};
 ghost use Rattle.diagram_arena.specs.Table.{IsLive, IsReduced};
 ghost use Rattle.diagram_arena.specs.Arena.{most_nodes, table, CanMake, IsNeeded, IsMade, KeepsNodes, NewAreUntagged, Grows, Joins, ChangesNode};
-ghost use Rattle.node_reclaim.specs.Pool.{pins_of, times, Pins, Unpins, IsPinned, pinned_refs};
+ghost use Rattle.node_reclaim.specs.Pool.{node_count, pins_of, times, Pins, Unpins, IsPinned, pinned_refs};
 
 use diagram_arena::{Arena, NodeId, Ref, Stop};
 use std::alloc::{AllocError, Global};
@@ -43,11 +43,14 @@ impl Pin {
     }
 }
 
-/// An arena whose nodes are pinned, each up to 2^64 - 1 times.
+/// An arena whose nodes are pinned, each up to 2^64 - 1 times. It counts the units of work begun and the nodes made since nodes were last
+/// reclaimed.
 #[derive(Drop)]
 pub struct Pool {
     arena: Arena,
     pins: BTreeMap<NodeId, u64>,
+    units: u64,
+    made: u64,
 }
 
 impl Model for Pool {
@@ -71,10 +74,14 @@ impl Pool {
         requires most { limit ≤ most_nodes }
         ensures empty { result.arena ≡ record { nodes = map.empty; limit = limit } }
         ensures unpinned { result.counts ≡ map.empty }
+        ensures units { result.units ≡ 0 }
+        ensures made { result.made ≡ 0 }
     {
         Pool {
             arena: Arena::new(alloc, limit),
             pins: BTreeMap::new(alloc),
+            units: 0,
+            made: 0,
         }
     }
 
@@ -83,6 +90,7 @@ impl Pool {
         ensures arena { result.now ≡ self.now.arena }
         ensures reduced { IsReduced (table self.now.arena) }
         ensures pinned_live { (i : NodeId) → 0 < pins_of self.now i → IsLive (table self.now.arena) (Ref.Node i) }
+        ensures made { self.now.made ≤ node_count self.now }
     {
         &self.arena
     }
@@ -108,8 +116,36 @@ impl Pool {
         ensures limit { self.new.arena.limit ≡ self.old.arena.limit }
         ensures counts { self.new.counts ≡ self.old.counts }
         ensures unpinned { (i : NodeId) → table self.old.arena i ≡ None → pins_of self.new i ≡ 0 }
+        ensures units_kept { self.new.units ≡ self.old.units }
+        ensures made_counted { self.new.made + node_count self.old ≡ self.old.made + node_count self.new }
     {
-        self.arena.make(bit, lo, hi)
+        let before = self.arena.len();
+        let answer = self.arena.make(bit, lo, hi);
+        self.made += u64::from(self.arena.len() - before);
+        answer
+    }
+
+    /// Begins a unit of work: what is done between two reclamations is told by units. The count of units stops rising at 2^64 - 1.
+    pub fn begin_unit(&mut self)
+        ensures units { self.new.units ≡ min (self.old.units + 1) (2 ^ 64 - 1) }
+        ensures only { self.new ≡ record self.old { units = self.new.units } }
+    {
+        self.units = self.units.saturating_add(1);
+    }
+
+    /// How many units were begun since nodes were last reclaimed, 2^64 - 1 where they were more.
+    pub fn units_since(&self) -> u64
+        ensures { result ≡ self.now.units }
+    {
+        self.units
+    }
+
+    /// How many nodes were made since nodes were last reclaimed.
+    pub fn made_since(&self) -> u64
+        ensures value { result ≡ self.now.made }
+        ensures within { self.now.made ≤ node_count self.now }
+    {
+        self.made
     }
 
     /// A pin of `r`, which must be live. A pin of Zero or One is counted nowhere. Where the node has 2^64 - 1 pins, the

@@ -24,7 +24,8 @@ use Rattle.diagram_arena.specs.declared.nodes.Stop.{Stop}
 use Rattle.diagram_arena.specs.Table.{Table, has}
 use Rattle.diagram_arena.specs.Arena.{table}
 use Rattle.node_reclaim.specs.Pool.{PoolState}
-use Rattle.diagram_ops.specs.Words.{words_of, both, either, without, words_with, Denotes, Stays, NewArePartsOf}
+use Rattle.node_reclaim.specs.Growth.{words_of, Stays, NewArePartsOf}
+use Rattle.diagram_ops.specs.Words.{both, either, without, words_with, Denotes}
 use Rattle.scope_words.specs.Words.{variables_in, AreWordsOf, IsDiagramOf}
 use Rattle.exact_steps.proofs.Wanted.{diagram_grows}
 use Rattle.propagators.specs.Compiled.{IsDiagramOfConstraint}

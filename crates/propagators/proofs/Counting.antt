@@ -5,7 +5,7 @@ use Rattle.diagram_arena.specs.declared.nodes.NodeId.{NodeId}
 use Rattle.diagram_arena.specs.declared.nodes.Ref.{Ref}
 use Rattle.diagram_arena.specs.declared.nodes.Ref.TheVariants.{Zero, One, Node}
 use Rattle.node_reclaim.specs.Pool.{PoolState, pins_of, times, Unpins, IsPinned}
-use Rattle.propagators.specs.Pins.{AreHeld}
+use Rattle.node_reclaim.specs.Holders.{AreHeld}
 
 pub times-append : (i : NodeId) (rs qs : List Ref) → times i (rs ++ qs) ≡ times i rs + times i qs
 times-append i [] qs = omega arith

@@ -18,10 +18,10 @@ use Rattle.diagram_arena.specs.declared.nodes.Ref.{Ref}
 use Rattle.diagram_arena.specs.Table.{Table, id_cmp, IsReduced}
 use Rattle.diagram_arena.specs.Arena.{ArenaState, table, Grows}
 use Rattle.node_reclaim.specs.Pool.{PoolState}
-use Rattle.diagram_ops.specs.Words.{Stays}
+use Rattle.node_reclaim.specs.Growth.{Stays}
 use Rattle.diagram_ops.proofs.Steps.{stays_self, stays_then, no_news, news_then}
 use Rattle.exact_steps.specs.Domains.{variable}
-use Rattle.propagators.specs.Pins.{Gains, StaysButPins}
+use Rattle.node_reclaim.specs.Holders.{Gains, StaysButPins}
 use Rattle.propagators.specs.Compiled.{IsInitialDomain, AreInitialDomains, IsDiagramOfConstraint}
 use Rattle.propagators.specs.Units.{Anything, IsOfUnit, NewAreOfUnits, AreDone}
 use Rattle.propagators.specs.Units.IsOfUnit.{of_variable, of_constraint}

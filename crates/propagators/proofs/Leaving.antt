@@ -11,7 +11,8 @@ use Rattle.diagram_arena.specs.declared.nodes.Stop.{Stop}
 use Rattle.diagram_arena.specs.Table.{Word, Words, Table, IsReduced}
 use Rattle.diagram_arena.specs.Arena.{table}
 use Rattle.node_reclaim.specs.Pool.{PoolState}
-use Rattle.diagram_ops.specs.Words.{Denotes, Stays, NewArePartsOf}
+use Rattle.node_reclaim.specs.Growth.{Stays, NewArePartsOf}
+use Rattle.diagram_ops.specs.Words.{Denotes}
 use Rattle.diagram_ops.proofs.Steps.{stays_self, stays_then, no_news, news_then}
 use Rattle.bit_machine.specs.Rules.{accepts}
 use Rattle.table_machine.specs.Tables.{Tables, AreTables, rules}

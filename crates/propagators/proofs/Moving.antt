@@ -19,7 +19,8 @@ use Rattle.diagram_arena.specs.Table.{Word, Table, has, IsLive}
 use Rattle.diagram_arena.specs.Arena.{Grows}
 use Rattle.exact_steps.specs.Domains.{variable, is_initial, word_of_value, values_in, AreDomains, family}
 use Rattle.exact_steps.proofs.Wanted.{values_same, domain_same, diagram_same}
-use Rattle.propagators.specs.Compiled.{CompiledState, pinned_by, IsInitialDomain, AreInitialDomains, IsDiagramOfConstraint, IsCompiled, IsConstraintAt, MeansTheSame}
+use Rattle.node_reclaim.specs.Holders.{MeansTheSame}
+use Rattle.propagators.specs.Compiled.{CompiledState, pinned_by, IsInitialDomain, AreInitialDomains, IsDiagramOfConstraint, IsCompiled, IsConstraintAt}
 
 -- ---- initial domains
 

@@ -19,11 +19,11 @@ use Rattle.diagram_arena.specs.Reach.{Bits, DependsOn}
 use Rattle.diagram_arena.specs.Arena.{ArenaState, table}
 use Rattle.diagram_arena.proofs.Reach.{reaches_only, part_depends}
 use Rattle.node_reclaim.specs.Pool.{PoolState, Unpins}
-use Rattle.diagram_ops.specs.Words.{Stays}
+use Rattle.node_reclaim.specs.Growth.{Stays}
 use Rattle.scope_words.specs.Words.{variables_in}
 use Rattle.scope_words.proofs.Bits.{place_of_bit, is_bit_of}
 use Rattle.exact_steps.proofs.Wanted.{Covers, words_depend}
-use Rattle.propagators.specs.Pins.{Gains, AreHeld, StaysButPins}
+use Rattle.node_reclaim.specs.Holders.{Gains, AreHeld, StaysButPins}
 use Rattle.propagators.specs.Compiled.{CompiledState, pinned_by, AreInitialDomains, IsDiagramOfConstraint, IsCompiled}
 use Rattle.propagators.specs.Units.{Anything, Relates, Fails, HasTruth, HasTruthOfRelation, truth_variables, IsPartOfWords, IsWantedBy, IsOfUnit, NewAreOfUnits, ReachesUnit, NewReachUnits, PinsAfter}
 use Rattle.propagators.specs.Units.IsWantedBy.{initial, holding, failing, truth, truth_of_relation, satisfying}

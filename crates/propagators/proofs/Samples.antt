@@ -20,7 +20,7 @@ use Rattle.node_reclaim.specs.Pool.{PoolState, pins_of, times}
 use Rattle.exact_steps.specs.declared.steps.StepResult.TheVariants as step
 use Rattle.exact_steps.specs.Domains.{IsDomain}
 use Rattle.exact_steps.specs.Steps.{IsStepOf}
-use Rattle.propagators.specs.Pins.{Gains, AreHeld}
+use Rattle.node_reclaim.specs.Holders.{Gains, AreHeld}
 use Rattle.propagators.specs.Compiled.{CompiledState, IsDiagramOfConstraint, IsCompiled, IsConstraintAt}
 use Rattle.propagators.proofs.Scopes.{entry}
 

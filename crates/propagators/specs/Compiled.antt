@@ -57,7 +57,3 @@ pub record IsConstraintAt (l : LayoutState) (t : Table) (k : CompiledState) (c :
   pub compiled : IsCompiled l problem t k
   pub at : slice_get problem.constraints c.0 ≡ Some con
   pub scope_at : slice_get k.scopes c.0 ≡ Some scope
-
--- the refs are in the second table too, and mean there what they mean in the first
-abbrev pub MeansTheSame : Table → Table → List Ref → Type 0
-MeansTheSame t u rs = (r : Ref) → Contains rs r → IsLive u r × ((w : Word) → has u r w ≡ has t r w)

@@ -20,7 +20,7 @@ use Rattle.diagram_arena.specs.Table.{Words, Table, has, IsLive}
 use Rattle.diagram_arena.specs.Part.{IsPartOf}
 use Rattle.diagram_arena.specs.Reach.{Bits, ReachesOnly}
 use Rattle.scope_words.specs.Words.{variables_in, IsBitOf, AreWordsOf}
-use Rattle.propagators.specs.Pins.{Gains}
+use Rattle.node_reclaim.specs.Holders.{Gains}
 use Rattle.propagators.specs.Compiled.{IsInitialDomain, IsDiagramOfConstraint}
 
 -- ---- conditions on the values of a constraint's variables

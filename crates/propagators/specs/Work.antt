@@ -14,11 +14,11 @@ use Rattle.diagram_arena.specs.declared.nodes.Stop.TheVariants.{Full, Memory}
 use Rattle.diagram_arena.specs.Table.{Table, has, IsLive}
 use Rattle.diagram_arena.specs.Arena.{table}
 use Rattle.node_reclaim.specs.Pool.{PoolState, Unpins}
-use Rattle.diagram_ops.specs.Words.{Stays}
+use Rattle.node_reclaim.specs.Growth.{Stays}
 use Rattle.bit_machine.specs.Rules.{accepts, most_bits}
 use Rattle.table_machine.specs.Tables.{Tables, AreTables, rules}
 use Rattle.scope_words.specs.Words.{AreBitsOf, AreWordsOf}
-use Rattle.propagators.specs.Pins.{Gains, StaysButPins}
+use Rattle.node_reclaim.specs.Holders.{Gains, StaysButPins}
 use Rattle.propagators.specs.Compiled.{IsInitialDomain}
 use Rattle.propagators.specs.Units.{Anything, IsPartOfWords, IsWantedBy, NewAreOfUnits, AreDone}
 

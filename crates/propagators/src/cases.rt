@@ -3,7 +3,7 @@ ghost use Rattle.std.specs.Prelude.{◌≡◌, ◌<◌, length, Contains, IfOk, 
 ghost use Rattle.set_meaning.specs.declared.problems.VarId.{VarId as Variable};
 ghost use Rattle.diagram_arena.specs.declared.nodes.Ref.{Ref as AnyRef};
 ghost use Rattle.diagram_arena.specs.Arena.{table};
-ghost use Rattle.diagram_ops.specs.Words.{Stays};
+ghost use Rattle.node_reclaim.specs.Growth.{Stays};
 ghost use Rattle.exact_steps.specs.Domains.{IsDomain, AreDomains};
 ghost use Rattle.propagators.specs.Compiled.{IsCompiled};
 

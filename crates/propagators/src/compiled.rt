@@ -1,13 +1,13 @@
 //! A problem's initial domains and constraints as diagrams.
 ghost use Rattle.std.specs.Prelude.{◌≡◌, ◌<◌, length, Some, slice_get, IfOk, IfErr, Err};
-ghost use Rattle.std.specs.FinMap as map;
 ghost use Rattle.diagram_arena.specs.Arena.{table};
 ghost use Rattle.node_reclaim.specs.Pool.{Unpins};
 ghost use Rattle.problem_limits.specs.Limits.{KeepsLimits};
-ghost use Rattle.propagators.specs.Pins.{Gains, AreHeld, StaysButPins};
+ghost use Rattle.node_reclaim.specs.Holders.{Gains, AreHeld, StaysButPins};
 ghost use Rattle.propagators.specs.Compiled.{pinned_by, IsCompiled};
 ghost use Rattle.propagators.specs.Units.{NewAreOfUnits, NewReachUnits, PinsAfter};
 ghost use Rattle.propagators.specs.Work.{IsGivenBack};
+ghost use Rattle.node_reclaim.specs.Growth.{IsFull};
 
 use crate::held::HeldPins;
 use crate::units::{Units, compile};
@@ -54,7 +54,7 @@ impl Compiled {
         ensures pins { IfOk result (λ k. Gains ops.old ops.new (pinned_by k)) }
         ensures stopped { IfErr result (PinsAfter layout.now p.now ops.old ops.new) }
         ensures nodes { StaysButPins ops.old ops.new }
-        ensures full { result ≡ Err Stop.Full → map.len ops.new.arena.nodes ≡ ops.new.arena.limit }
+        ensures full { result ≡ Err Stop.Full → IsFull ops.new }
         ensures wanted { NewAreOfUnits layout.now p.now (table ops.old.arena) (table ops.new.arena) }
         ensures reach { NewReachUnits layout.now p.now (table ops.old.arena) (table ops.new.arena) }
     {

@@ -3,7 +3,7 @@ ghost use Rattle.std.specs.Prelude.{◌≡◌, [], ◌∷◌, ◌++◌, OnOk, On
 ghost use Rattle.diagram_arena.specs.Table.{IsLive};
 ghost use Rattle.diagram_arena.specs.Arena.{table};
 ghost use Rattle.node_reclaim.specs.Pool.{Unpins};
-ghost use Rattle.propagators.specs.Pins.{Gains, AreHeld};
+ghost use Rattle.node_reclaim.specs.Holders.{Gains, AreHeld};
 
 use diagram_arena::Ref;
 use diagram_ops::Ops;

@@ -1,8 +1,7 @@
 //! The words of initial values, and the domains that have them all.
 ghost use Rattle.std.specs.Prelude.{◌≡◌, ◌<◌, [], ◌∷◌, All, Some, length, slice_get, Err, IfOk};
-ghost use Rattle.std.specs.FinMap as map;
 ghost use Rattle.diagram_arena.specs.Arena.{table};
-ghost use Rattle.diagram_ops.specs.Words.{Stays};
+ghost use Rattle.node_reclaim.specs.Growth.{IsFull, Stays};
 ghost use Rattle.scope_words.specs.Words.{IsDiagramOf};
 ghost use Rattle.propagators.specs.Compiled.{IsInitialDomain};
 ghost use Rattle.propagators.specs.Units.{Anything};
@@ -30,7 +29,7 @@ pub(crate) fn initial_words(
     requires few { HaveFewBits layout.now variables.now }
     ensures diagram { IfOk result (IsDiagramOf layout.now variables.now Anything (table ops.new.arena)) }
     ensures stays { Stays ops.old ops.new }
-    ensures full { result ≡ Err Stop.Full → map.len ops.new.arena.nodes ≡ ops.new.arena.limit }
+    ensures full { result ≡ Err Stop.Full → IsFull ops.new }
     ensures parts { NewAreOfWords layout.now variables.now Anything (table ops.old.arena) (table ops.new.arena) }
 {
     // What holds of every pool.
@@ -54,7 +53,7 @@ pub(crate) fn initial_domain(
     requires kind { slice_get layout.now.kinds v.0 ≡ Some kind.now }
     ensures domain { IfOk result (IsInitialDomain layout.now (table ops.new.arena) v) }
     ensures stays { Stays ops.old ops.new }
-    ensures full { result ≡ Err Stop.Full → map.len ops.new.arena.nodes ≡ ops.new.arena.limit }
+    ensures full { result ≡ Err Stop.Full → IsFull ops.new }
     ensures parts { NewAreOfWords layout.now (v ∷ []) Anything (table ops.old.arena) (table ops.new.arena) }
 {
     // What holds of every layout and pool, and of values.

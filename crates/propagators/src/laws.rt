@@ -10,7 +10,8 @@ ghost use Rattle.diagram_arena.specs.Table.{Table};
 ghost use Rattle.diagram_arena.specs.Arena.{Grows};
 ghost use Rattle.bit_layout.specs.Order.{LayoutState};
 ghost use Rattle.exact_steps.specs.Domains.{variable, is_initial, AreDomains, family};
-ghost use Rattle.propagators.specs.Compiled.{CompiledState, pinned_by, AreInitialDomains, IsCompiled, IsConstraintAt, MeansTheSame};
+ghost use Rattle.node_reclaim.specs.Holders.{MeansTheSame};
+ghost use Rattle.propagators.specs.Compiled.{CompiledState, pinned_by, AreInitialDomains, IsCompiled, IsConstraintAt};
 
 /// The domains of all initial values are domains, and their family gives each variable its initial values.
 pub fn initial_domains_are_domains()

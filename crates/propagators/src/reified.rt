@@ -1,7 +1,6 @@
 //! The diagram of a constraint, its truth value included.
 ghost use Rattle.std.specs.Prelude.{◌≡◌, ◌++◌, All, Some, slice_get, Err, IfOk, OnOk};
 ghost use Rattle.std.specs.List.{filter_map};
-ghost use Rattle.std.specs.FinMap as map;
 ghost use Rattle.set_meaning.specs.declared.kinds.Kind.TheVariants as any_kind;
 ghost use Rattle.set_meaning.specs.declared.problems.Term.TheVariants as any_term;
 ghost use Rattle.set_meaning.specs.Relations.{variable_of, variables_of};
@@ -12,6 +11,7 @@ ghost use Rattle.problem_limits.specs.Limits.{HasSmallNumbers, IsWithinLimits};
 ghost use Rattle.propagators.specs.Compiled.{IsDiagramOfConstraint};
 ghost use Rattle.propagators.specs.Units.{Relates, Fails, IsRelated, HasTruthOfRelation};
 ghost use Rattle.propagators.specs.Work.{HaveFewBits, LeavesFor, truth_of};
+ghost use Rattle.node_reclaim.specs.Growth.{IsFull};
 
 use crate::initial::initial_words;
 use crate::relations::relation_diagram;
@@ -38,7 +38,7 @@ pub(crate) fn constraint_diagram(
     requires limits { IsWithinLimits p.now.kinds c.now }
     ensures diagram { IfOk result (IsDiagramOfConstraint layout.now (table ops.new.arena) c.now) }
     ensures leaves { LeavesFor layout.now c.now ops.old ops.new }
-    ensures full { result ≡ Err Stop.Full → map.len ops.new.arena.nodes ≡ ops.new.arena.limit }
+    ensures full { result ≡ Err Stop.Full → IsFull ops.new }
 {
     // What holds of every layout and pool.
     layout.obeys_order();
@@ -67,7 +67,7 @@ fn with_truth(
     requires holding { IsDiagramOf layout.now (variables_in c.now.args) (Relates c.now) (table ops.old.arena) holding }
     ensures diagram { IfOk result (IsDiagramOfConstraint layout.now (table ops.new.arena) c.now) }
     ensures leaves { LeavesFor layout.now c.now ops.old ops.new }
-    ensures full { result ≡ Err Stop.Full → map.len ops.new.arena.nodes ≡ ops.new.arena.limit }
+    ensures full { result ≡ Err Stop.Full → IsFull ops.new }
 {
     match term {
         Term::Const(value) => with_fixed_truth(alloc, ops, layout, p, c, value, holding),
@@ -92,7 +92,7 @@ fn with_fixed_truth(
     requires holding { IsDiagramOf layout.now (variables_in c.now.args) (Relates c.now) (table ops.old.arena) holding }
     ensures diagram { IfOk result (IsDiagramOfConstraint layout.now (table ops.new.arena) c.now) }
     ensures leaves { LeavesFor layout.now c.now ops.old ops.new }
-    ensures full { result ≡ Err Stop.Full → map.len ops.new.arena.nodes ≡ ops.new.arena.limit }
+    ensures full { result ≡ Err Stop.Full → IsFull ops.new }
 {
     // What holds of every pool.
     let _ = ops.pool();
@@ -119,7 +119,7 @@ fn with_free_truth(
     requires holding { IsDiagramOf layout.now (variables_in c.now.args) (Relates c.now) (table ops.old.arena) holding }
     ensures diagram { IfOk result (IsDiagramOfConstraint layout.now (table ops.new.arena) c.now) }
     ensures leaves { LeavesFor layout.now c.now ops.old ops.new }
-    ensures full { result ≡ Err Stop.Full → map.len ops.new.arena.nodes ≡ ops.new.arena.limit }
+    ensures full { result ≡ Err Stop.Full → IsFull ops.new }
 {
     // What holds of every layout.
     layout.obeys_order();
@@ -153,7 +153,7 @@ fn failing(
     requires holding { IsDiagramOf layout.now (variables_in c.now.args) (Relates c.now) (table ops.old.arena) holding }
     ensures diagram { IfOk result (IsDiagramOf layout.now (variables_in c.now.args) (Fails c.now) (table ops.new.arena)) }
     ensures leaves { LeavesFor layout.now c.now ops.old ops.new }
-    ensures full { result ≡ Err Stop.Full → map.len ops.new.arena.nodes ≡ ops.new.arena.limit }
+    ensures full { result ≡ Err Stop.Full → IsFull ops.new }
 {
     // What holds of every layout and pool.
     layout.obeys_order();
@@ -181,7 +181,7 @@ fn beyond(
     requires holding { IsDiagramOf layout.now (variables_in c.now.args) (Relates c.now) (table ops.old.arena) holding }
     ensures diagram { IfOk result (IsDiagramOf layout.now (variables_in c.now.args) (Fails c.now) (table ops.new.arena)) }
     ensures leaves { LeavesFor layout.now c.now ops.old ops.new }
-    ensures full { result ≡ Err Stop.Full → map.len ops.new.arena.nodes ≡ ops.new.arena.limit }
+    ensures full { result ≡ Err Stop.Full → IsFull ops.new }
 {
     // What holds of every layout.
     layout.obeys_order();
@@ -204,7 +204,7 @@ fn cases_joined(
     requires failing { IsDiagramOf layout.now (variables_in c.now.args) (Fails c.now) (table ops.old.arena) failing }
     ensures diagram { IfOk result (IsDiagramOfConstraint layout.now (table ops.new.arena) c.now) }
     ensures leaves { LeavesFor layout.now c.now ops.old ops.new }
-    ensures full { result ≡ Err Stop.Full → map.len ops.new.arena.nodes ≡ ops.new.arena.limit }
+    ensures full { result ≡ Err Stop.Full → IsFull ops.new }
 {
     let on_true = with_literal(ops, layout, c, v, true, holding)?;
     let on_false = with_literal(ops, layout, c, v, false, failing)?;
@@ -225,7 +225,7 @@ fn with_literal(
     requires related { IsDiagramOf layout.now (variables_in c.now.args) (IsRelated c.now value) (table ops.old.arena) related }
     ensures diagram { IfOk result (IsDiagramOf layout.now (variables_of c.now) (HasTruthOfRelation c.now value) (table ops.new.arena)) }
     ensures leaves { LeavesFor layout.now c.now ops.old ops.new }
-    ensures full { result ≡ Err Stop.Full → map.len ops.new.arena.nodes ≡ ops.new.arena.limit }
+    ensures full { result ≡ Err Stop.Full → IsFull ops.new }
 {
     // What holds of every layout and pool, and of values.
     layout.obeys_order();

@@ -1,11 +1,10 @@
 //! The diagram of a constraint's relation.
 ghost use Rattle.std.specs.Prelude.{◌≡◌, ℕ, ◌≤◌, List, All, length, Err, IfOk};
-ghost use Rattle.std.specs.FinMap as map;
 ghost use Rattle.set_meaning.specs.declared.problems.Relation.{Relation as AnyRelation};
 ghost use Rattle.set_meaning.specs.Relations.{HoldsOf};
 ghost use Rattle.set_meaning.specs.Rows.{FitsRow};
 ghost use Rattle.diagram_arena.specs.Arena.{table};
-ghost use Rattle.diagram_ops.specs.Words.{Stays};
+ghost use Rattle.node_reclaim.specs.Growth.{IsFull, Stays};
 ghost use Rattle.bit_machine.specs.Rules.{most_bits};
 ghost use Rattle.scope_words.specs.Words.{variables_in, AreBitsOf, IsDiagramOf, NewArePartsOfWords};
 ghost use Rattle.problem_limits.specs.Limits.{HasSmallNumbers, IsWithinLimits};
@@ -40,7 +39,7 @@ pub(crate) fn relation_diagram(
     requires limits { IsWithinLimits p.now.kinds c.now }
     ensures diagram { IfOk result (IsDiagramOf layout.now (variables_in c.now.args) (HoldsOf c.now.relation c.now.args) (table ops.new.arena)) }
     ensures stays { Stays ops.old ops.new }
-    ensures full { result ≡ Err Stop.Full → map.len ops.new.arena.nodes ≡ ops.new.arena.limit }
+    ensures full { result ≡ Err Stop.Full → IsFull ops.new }
     ensures parts { NewArePartsOfWords layout.now (variables_in c.now.args) (HoldsOf c.now.relation c.now.args) (table ops.old.arena) (table ops.new.arena) }
 {
     if is_set_shape(c.relation) {

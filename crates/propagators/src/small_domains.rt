@@ -6,7 +6,7 @@
 ghost use Rattle.std.specs.Prelude.{◌≡◌, ◌<◌, Some, length, slice_get, OnOk};
 ghost use Rattle.diagram_arena.specs.Table.{IsLive};
 ghost use Rattle.diagram_arena.specs.Arena.{table};
-ghost use Rattle.diagram_ops.specs.Words.{Stays};
+ghost use Rattle.node_reclaim.specs.Growth.{Stays};
 ghost use Rattle.problem_limits.specs.Limits.{KeepsLimits};
 ghost use Rattle.exact_steps.specs.Domains.{AreDomains};
 ghost use Rattle.propagators.specs.Compiled.{IsCompiled};

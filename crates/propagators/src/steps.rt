@@ -1,11 +1,10 @@
 //! The exact step of a compiled constraint.
 ghost use Rattle.std.specs.Prelude.{◌≡◌, ◌<◌, List, length, IfOk, Err};
-ghost use Rattle.std.specs.FinMap as map;
 ghost use Rattle.set_meaning.specs.declared.problems.VarId.{VarId as Variable};
 ghost use Rattle.set_meaning.specs.declared.problems.Constraint.{Constraint as AnyConstraint};
 ghost use Rattle.set_meaning.specs.Relations.{Holds};
 ghost use Rattle.diagram_arena.specs.Arena.{table};
-ghost use Rattle.diagram_ops.specs.Words.{Stays};
+ghost use Rattle.node_reclaim.specs.Growth.{IsFull, Stays};
 ghost use Rattle.scope_words.specs.Words.{NewReachOnlyScope};
 ghost use Rattle.exact_steps.specs.Domains.{AreDomains, family};
 ghost use Rattle.exact_steps.specs.Steps.{IsStepOf};
@@ -38,7 +37,7 @@ pub fn step(
     ensures answer { let t = table ops.old.arena in (con : AnyConstraint) (scope : List Variable) → IsConstraintAt layout.now t compiled.now c con scope
         → IfOk result (IsStepOf layout.now scope (Holds con) (family layout.now t domains.now) (table ops.new.arena)) }
     ensures stays { Stays ops.old ops.new }
-    ensures full { result ≡ Err Stop.Full → map.len ops.new.arena.nodes ≡ ops.new.arena.limit }
+    ensures full { result ≡ Err Stop.Full → IsFull ops.new }
     ensures parts { let t = table ops.old.arena in (con : AnyConstraint) (scope : List Variable) → IsConstraintAt layout.now t compiled.now c con scope
         → NewAreWanted layout.now scope (Holds con) (family layout.now t domains.now) t (table ops.new.arena) }
     ensures reach { let t = table ops.old.arena in (con : AnyConstraint) (scope : List Variable) → IsConstraintAt layout.now t compiled.now c con scope

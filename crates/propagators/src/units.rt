@@ -1,7 +1,6 @@
 //! The units of a compilation, one after another: the domain of each variable's initial values, and the diagram of each constraint.
 ghost use Rattle.std.specs.Prelude.{◌≡◌, [], ◌∷◌, ◌++◌, All, Contains, Some, length, slice_get, Err, IfOk, OnOk, OnErr};
 ghost use Rattle.std.specs.List.{AllZip};
-ghost use Rattle.std.specs.FinMap as map;
 ghost use Rattle.set_meaning.specs.Relations.{IsScope};
 ghost use Rattle.set_meaning.specs.Rows.{FitsRow};
 ghost use Rattle.diagram_arena.specs.Arena.{table};
@@ -9,6 +8,7 @@ ghost use Rattle.scope_words.specs.Words.{variables_in};
 ghost use Rattle.problem_limits.specs.Limits.{HasSmallNumbers, IsWithinLimits, KeepsLimits};
 ghost use Rattle.propagators.specs.Compiled.{IsInitialDomain, AreInitialDomains, IsDiagramOfConstraint};
 ghost use Rattle.propagators.specs.Work.{HaveFewBits, LeavesUnits, AddsHeld, AreFirstDomains, HoldsConstraints, HoldsUnits};
+ghost use Rattle.node_reclaim.specs.Growth.{IsFull};
 
 use crate::held::HeldPins;
 use crate::initial::initial_domain;
@@ -44,7 +44,7 @@ pub(crate) fn compile(
     ensures diagrams { IfOk result (λ u. AllZip (IsDiagramOfConstraint layout.now (table ops.new.arena)) p.now.constraints u.diagrams.items) }
     ensures pinned { IfOk result (λ u. pins.new ≡ u.start.items ++ u.diagrams.items) }
     ensures held { HoldsUnits layout.now p.now ops.old ops.new pins.new }
-    ensures full { result ≡ Err Stop.Full → map.len ops.new.arena.nodes ≡ ops.new.arena.limit }
+    ensures full { result ≡ Err Stop.Full → IsFull ops.new }
 {
     let start = domains(alloc, p, layout, ops, pins)?;
     let (scopes, diagrams) = constraints(alloc, p, layout, ops, start.as_slice(), pins)?;
@@ -70,7 +70,7 @@ fn domains(
     ensures pinned { IfOk result (λ start. pins.new ≡ start.items) }
     ensures done { AreFirstDomains layout.now p.now (table ops.new.arena) pins.new }
     ensures left { LeavesUnits layout.now p.now ops.old ops.new pins.new }
-    ensures full { result ≡ Err Stop.Full → map.len ops.new.arena.nodes ≡ ops.new.arena.limit }
+    ensures full { result ≡ Err Stop.Full → IsFull ops.new }
 {
     // What holds of every pool.
     let _ = ops.pool();
@@ -97,7 +97,7 @@ fn held_domain(
     ensures domain { IfOk result (IsInitialDomain layout.now (table ops.new.arena) v) }
     ensures held { IfOk result (λ r. AddsHeld layout.now p.now ops.old ops.new pins.old pins.new (r ∷ [])) }
     ensures refused { OnErr result (AddsHeld layout.now p.now ops.old ops.new pins.old pins.new []) }
-    ensures full { result ≡ Err Stop.Full → map.len ops.new.arena.nodes ≡ ops.new.arena.limit }
+    ensures full { result ≡ Err Stop.Full → IsFull ops.new }
 {
     let r = initial_domain(alloc, ops, layout, p.kinds.items(), v, kind)?;
     pins.hold(ops, r)?;
@@ -121,7 +121,7 @@ fn constraints(
     ensures diagrams { IfOk result (λ r. AllZip (IsDiagramOfConstraint layout.now (table ops.new.arena)) p.now.constraints r.1.items) }
     ensures pinned { IfOk result (λ r. pins.new ≡ start.now ++ r.1.items) }
     ensures held { HoldsConstraints layout.now p.now ops.old ops.new start.now pins.new }
-    ensures full { result ≡ Err Stop.Full → map.len ops.new.arena.nodes ≡ ops.new.arena.limit }
+    ensures full { result ≡ Err Stop.Full → IsFull ops.new }
 {
     // What holds of every layout and pool.
     layout.obeys_order();
@@ -155,7 +155,7 @@ fn held_diagram(
     ensures diagram { IfOk result (IsDiagramOfConstraint layout.now (table ops.new.arena) c.now) }
     ensures held { IfOk result (λ r. AddsHeld layout.now p.now ops.old ops.new pins.old pins.new (r ∷ [])) }
     ensures refused { OnErr result (AddsHeld layout.now p.now ops.old ops.new pins.old pins.new []) }
-    ensures full { result ≡ Err Stop.Full → map.len ops.new.arena.nodes ≡ ops.new.arena.limit }
+    ensures full { result ≡ Err Stop.Full → IsFull ops.new }
 {
     // What holds of every layout.
     layout.obeys_order();

@@ -16,7 +16,7 @@ use Rattle.bit_layout.specs.Order.{LayoutState, width_at, bit_at, word_at, IsVal
 use Rattle.diagram_arena.specs.declared.nodes.Ref.{Ref}
 use Rattle.diagram_arena.specs.Table.{Word, Words, Table, has, IsLive}
 use Rattle.diagram_arena.specs.Reach.{Bits}
-use Rattle.diagram_ops.specs.Words.{NewArePartsOf, NewReachOnly}
+use Rattle.node_reclaim.specs.Growth.{NewArePartsOf, NewReachOnly}
 
 -- ---- the variables of a constraint, and their bits
 

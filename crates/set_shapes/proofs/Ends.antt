@@ -7,7 +7,8 @@ use Rattle.diagram_arena.specs.declared.nodes.Ref.{Ref}
 use Rattle.diagram_arena.specs.declared.nodes.Stop.{Stop}
 use Rattle.diagram_arena.specs.Table.{Words, Table}
 use Rattle.diagram_arena.specs.Reach.{Bits}
-use Rattle.diagram_ops.specs.Words.{Denotes, NewArePartsOf}
+use Rattle.node_reclaim.specs.Growth.{NewArePartsOf}
+use Rattle.diagram_ops.specs.Words.{Denotes}
 use Rattle.bit_machine.specs.Rules.{accepts, most_bits}
 use Rattle.set_meaning.specs.declared.kinds.Kind.{Kind}
 use Rattle.set_meaning.specs.declared.kinds.Value.{Value}

@@ -1,11 +1,11 @@
 //! The diagrams of set relations.
 ghost use Rattle.std.specs.Prelude.{◌≡◌, ℕ, ◌≤◌, true, length, List, Err, IfOk};
-ghost use Rattle.std.specs.FinMap as map;
 ghost use Rattle.diagram_arena.specs.Arena.{table};
 ghost use Rattle.std.specs.List.{AllPass as All_pass};
 ghost use Rattle.std.specs.List.Sorted.{IsStrictlyIncreasing};
 ghost use Rattle.diagram_arena.specs.Reach.{Bits};
-ghost use Rattle.diagram_ops.specs.Words.{Denotes, Stays, NewArePartsOf, NewReachOnly};
+ghost use Rattle.node_reclaim.specs.Growth.{IsFull, Stays, NewArePartsOf, NewReachOnly};
+ghost use Rattle.diagram_ops.specs.Words.{Denotes};
 ghost use Rattle.bit_machine.specs.Rules.{accepts, most_bits};
 ghost use Rattle.element_machine.specs.Reading.{AreGrouped, by_elements};
 ghost use Rattle.set_meaning.specs.Relations.{HoldsOf};
@@ -49,7 +49,7 @@ pub fn set_shape(
     requires few { (bits : List ℕ) → AreBitsOf layout.now (variables_in c.now.args) bits → length bits ≤ most_bits }
     ensures diagram { IfOk result (IsDiagramOf layout.now (variables_in c.now.args) (HoldsOf c.now.relation c.now.args) (table ops.new.arena)) }
     ensures stays { Stays ops.old ops.new }
-    ensures full { result ≡ Err Stop.Full → map.len ops.new.arena.nodes ≡ ops.new.arena.limit }
+    ensures full { result ≡ Err Stop.Full → IsFull ops.new }
     ensures parts { NewArePartsOfWords layout.now (variables_in c.now.args) (HoldsOf c.now.relation c.now.args) (table ops.old.arena) (table ops.new.arena) }
     ensures reach { NewReachOnlyScope layout.now (variables_in c.now.args) (table ops.old.arena) (table ops.new.arena) }
 {
@@ -73,7 +73,7 @@ fn element_shape(
     requires few { (bits : List ℕ) → AreBitsOf layout.now (variables_in c.now.args) bits → length bits ≤ most_bits }
     ensures diagram { IfOk result (IsDiagramOf layout.now (variables_in c.now.args) (HoldsOf c.now.relation c.now.args) (table ops.new.arena)) }
     ensures stays { Stays ops.old ops.new }
-    ensures full { result ≡ Err Stop.Full → map.len ops.new.arena.nodes ≡ ops.new.arena.limit }
+    ensures full { result ≡ Err Stop.Full → IsFull ops.new }
     ensures parts { NewArePartsOfWords layout.now (variables_in c.now.args) (HoldsOf c.now.relation c.now.args) (table ops.old.arena) (table ops.new.arena) }
     ensures reach { NewReachOnlyScope layout.now (variables_in c.now.args) (table ops.old.arena) (table ops.new.arena) }
 {
@@ -101,7 +101,7 @@ fn shape_between_sets(
     requires few { (bits : List ℕ) → AreBitsOf layout.now (variables_in c.now.args) bits → length bits ≤ most_bits }
     ensures diagram { IfOk result (IsDiagramOf layout.now (variables_in c.now.args) (HoldsOf c.now.relation c.now.args) (table ops.new.arena)) }
     ensures stays { Stays ops.old ops.new }
-    ensures full { result ≡ Err Stop.Full → map.len ops.new.arena.nodes ≡ ops.new.arena.limit }
+    ensures full { result ≡ Err Stop.Full → IsFull ops.new }
     ensures parts { NewArePartsOfWords layout.now (variables_in c.now.args) (HoldsOf c.now.relation c.now.args) (table ops.old.arena) (table ops.new.arena) }
     ensures reach { NewReachOnlyScope layout.now (variables_in c.now.args) (table ops.old.arena) (table ops.new.arena) }
 {
@@ -137,7 +137,7 @@ fn diagram_of(alloc: Global, ops: &mut Ops, machine: SetMachine, t: &Table) -> R
     requires grouped { AreGrouped (length t.now.constants.items) t.now.entries.items }
     ensures words { IfOk result (Denotes (table ops.new.arena) (accepted_by machine t.now.constants.items t.now.entries.items t.now.bits.items)) }
     ensures stays { Stays ops.old ops.new }
-    ensures full { result ≡ Err Stop.Full → map.len ops.new.arena.nodes ≡ ops.new.arena.limit }
+    ensures full { result ≡ Err Stop.Full → IsFull ops.new }
     ensures parts { NewArePartsOf (table ops.old.arena) (table ops.new.arena) (accepted_by machine t.now.constants.items t.now.entries.items t.now.bits.items) }
     ensures reach { (set : Bits) → All_pass set t.now.bits.items → NewReachOnly (table ops.old.arena) (table ops.new.arena) set }
 {
@@ -160,7 +160,7 @@ fn built<M: ElementMachine + Drop>(
     requires grouped { AreGrouped (length t.now.constants.items) t.now.entries.items }
     ensures words { IfOk result (Denotes (table ops.new.arena) (accepts (by_elements (M.rules machine) t.now.constants.items t.now.entries.items) t.now.bits.items)) }
     ensures stays { Stays ops.old ops.new }
-    ensures full { result ≡ Err Stop.Full → map.len ops.new.arena.nodes ≡ ops.new.arena.limit }
+    ensures full { result ≡ Err Stop.Full → IsFull ops.new }
     ensures parts { NewArePartsOf (table ops.old.arena) (table ops.new.arena) (accepts (by_elements (M.rules machine) t.now.constants.items t.now.entries.items) t.now.bits.items) }
     ensures reach { (set : Bits) → All_pass set t.now.bits.items → NewReachOnly (table ops.old.arena) (table ops.new.arena) set }
 {

@@ -6,7 +6,8 @@ use Rattle.set_meaning.specs.declared.problems.Bounds.{Bounds}
 use Rattle.set_meaning.specs.declared.problems.Problem.{Problem}
 use Rattle.fzn_printer.specs.RootLine.{root_line}
 use Rattle.node_reclaim.specs.Pool.{PoolState, pinned_refs}
-use Rattle.learn_search.specs.Searches.{SearchState, IsFull, IsLastOf}
+use Rattle.node_reclaim.specs.Growth.{IsFull}
+use Rattle.learn_search.specs.Searches.{SearchState, IsLastOf}
 use Rattle.learn_search.specs.declared.search.LastState.{LastState}
 use Rattle.learn_search.specs.declared.search.SearchEnd.TheVariants as ends
 use Rattle.solve_top.specs.declared.solving.Status.{Status}

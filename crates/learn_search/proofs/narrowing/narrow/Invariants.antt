@@ -1,5 +1,5 @@
 use Rattle.diagram_arena.specs.Arena.{table}
-use Rattle.diagram_ops.specs.Words.{Stays}
+use Rattle.node_reclaim.specs.Growth.{Stays}
 use Rattle.learn_search.specs.Rounds.{IsOnWay, left}
 use Rattle.learn_search.proofs.narrowing.narrow.Given as goal
 

@@ -1,5 +1,5 @@
 use Rattle.diagram_arena.specs.Arena.{table}
-use Rattle.diagram_ops.specs.Words.{Stays}
+use Rattle.node_reclaim.specs.Growth.{Stays}
 use Rattle.exact_steps.specs.Domains.{AreDomains}
 use Rattle.propagators.proofs.small_domains.are_steps_right.Given as goal
 

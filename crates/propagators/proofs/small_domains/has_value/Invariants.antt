@@ -1,6 +1,6 @@
 use Rattle.diagram_arena.specs.Table.{IsLive}
 use Rattle.diagram_arena.specs.Arena.{table}
-use Rattle.diagram_ops.specs.Words.{Stays}
+use Rattle.node_reclaim.specs.Growth.{Stays}
 use Rattle.propagators.proofs.small_domains.has_value.Given as goal
 
 abbrev pub invariant-loop-bit : goal.invariant-loop-bit

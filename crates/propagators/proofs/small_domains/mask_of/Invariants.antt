@@ -1,4 +1,4 @@
-use Rattle.diagram_ops.specs.Words.{Stays}
+use Rattle.node_reclaim.specs.Growth.{Stays}
 use Rattle.propagators.proofs.small_domains.mask_of.Given as goal
 
 abbrev pub invariant-loop-number : goal.invariant-loop-number

@@ -1,4 +1,4 @@
-use Rattle.diagram_ops.specs.Words.{Stays}
+use Rattle.node_reclaim.specs.Growth.{Stays}
 use Rattle.propagators.proofs.small_domains.masks_of.Given as goal
 
 abbrev pub invariant-loop-v : goal.invariant-loop-v

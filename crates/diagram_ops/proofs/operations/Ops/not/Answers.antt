@@ -3,7 +3,8 @@ use Rattle.std.specs.Prelude.{IfOk}
 use Rattle.diagram_arena.specs.declared.nodes.Ref.TheVariants.{One}
 use Rattle.diagram_arena.specs.Table.{Words}
 use Rattle.diagram_arena.specs.Arena.{table}
-use Rattle.diagram_ops.specs.Words.{Denotes, NewArePartsOf}
+use Rattle.node_reclaim.specs.Growth.{NewArePartsOf}
+use Rattle.diagram_ops.specs.Words.{Denotes}
 use Rattle.diagram_ops.specs.declared.question.Op.TheVariants.{Diff}
 use Rattle.diagram_ops.specs.declared.question.Question.TheVariants.{Combine}
 use Rattle.diagram_ops.proofs.Results.{answered_words, not_words, not_deep, not_asks, not_reach}

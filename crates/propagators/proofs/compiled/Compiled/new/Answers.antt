@@ -2,7 +2,7 @@ use Rattle.std.proofs.Common.{◌≡◌, Err, ap, ◌∙◌, subst}
 use Rattle.diagram_arena.specs.declared.nodes.Stop.{Stop}
 use Rattle.diagram_arena.specs.declared.nodes.Stop.TheVariants.{Full}
 use Rattle.diagram_arena.specs.Arena.{table}
-use Rattle.propagators.specs.Pins.{Gains}
+use Rattle.node_reclaim.specs.Holders.{Gains}
 use Rattle.propagators.proofs.Reaching.{held_there, all_compiled, units_reach, stopped_so, nodes_so, parts_so, full_so}
 use Rattle.propagators.proofs.compiled.Compiled.new.Goals as goal
 
