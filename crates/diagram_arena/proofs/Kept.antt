@@ -1,5 +1,5 @@
 -- The arena's nodes as a finite map: what a list of nodes gives at an id, after a push and after a write.
-use Rattle.std.proofs.Common.{◌≡◌, ◌≢◌, ℕ, ◌+◌, ◌<◌, true, false, cond, zero, suc, List, [], ◌∷◌, ◌++◌, length, set, Some, refl, sym, ◌∙◌, ap, subst, inl, inr, arith}
+use Rattle.std.proofs.Common.{◌≡◌, ◌≢◌, ℕ, ◌+◌, ◌<◌, true, false, cond, zero, suc, List, [], ◌∷◌, ◌++◌, length, set, Some, refl, sym, ◌∙◌, ap, subst, inl, inr, arith, length-set}
 use Rattle.std.specs.Prelude.{T}
 use Rattle.std.specs.List.{slice_get}
 use Rattle.std.specs.Option.{option_map}
@@ -109,3 +109,7 @@ set-state_of ns i n m limit f at is = record {
   others = λ j ne. get-state_of (set ns i.0 n) limit j ∙ slice_get-set_other ns i.0 j.0 n (λ e. ne (same_id j i e)) ∙ sym (get-state_of ns limit j);
   limit = limit-state_of (set ns i.0 n) limit ∙ sym (limit-state_of ns limit);
 }
+
+-- a write keeps their number
+pub len-set_state_of : (ns : List Node) (k : ℕ) (n : Node) (limit : ℕ) → map.len (state_of (set ns k n) limit).nodes ≡ map.len (state_of ns limit).nodes
+len-set_state_of ns k n limit = len-state_of (set ns k n) limit ∙ length-set ns k n ∙ sym (len-state_of ns limit)

@@ -75,9 +75,11 @@ impl Arena {
         ensures grows { Grows (table self.old) (table self.new) }
         ensures reduced { IsReduced (table self.new) }
         ensures limit { self.new.limit ≡ self.old.limit }
+        ensures rises { map.len self.old.nodes ≤ map.len self.new.nodes }
+        ensures within { map.len self.new.nodes ≤ self.new.limit }
     {
         // What is known of the table.
-        let _ = &self.ids;
+        let _ = self.len();
         if is_same(lo, hi) {
             return Ok(lo);
         }
@@ -103,6 +105,8 @@ impl Arena {
         ensures added { IfOk result (λ r. (i : NodeId) × (r ≡ Ref.Node i) × AddsNode self.old self.new triple.bit triple.lo triple.hi i) }
         ensures full { (result ≡ Err Stop.Full) ↔ (map.len self.old.nodes ≡ self.old.limit) }
         ensures err { OnErr result (self.new ≡ self.old) }
+        ensures rises { map.len self.old.nodes ≤ map.len self.new.nodes }
+        ensures within { map.len self.new.nodes ≤ self.new.limit }
     {
         if self.len() == self.limit {
             return Err(Stop::Full);
@@ -202,6 +206,7 @@ impl Arena {
         requires { IsLive (table self.old) (Ref.Node id) }
         ensures tagged { ChangesNode self.old self.new id (λ (n : Node). record n { tag = tag }) }
         ensures table { table self.new ≡ table self.old }
+        ensures count { map.len self.new.nodes ≡ map.len self.old.nodes }
     {
         let tagged = &mut self.nodes[id.0];
         tagged.tag = tag;
@@ -212,6 +217,7 @@ impl Arena {
         requires { IsLive (table self.old) (Ref.Node id) }
         ensures marked { ChangesNode self.old self.new id (λ (n : Node). record n { mark = mark }) }
         ensures table { table self.new ≡ table self.old }
+        ensures count { map.len self.new.nodes ≡ map.len self.old.nodes }
     {
         let marked = &mut self.nodes[id.0];
         marked.mark = mark;

@@ -1,4 +1,4 @@
-use Rattle.std.proofs.Common.{◌≡◌, ◌<◌, ℕ, List, [], ◌∷◌, ◌++◌, length, Result, Ok, Err, refl, sym, ◌∙◌, ap, arith}
+use Rattle.std.proofs.Common.{◌≡◌, ◌<◌, ℕ, List, [], ◌∷◌, ◌++◌, length, Result, Ok, Err, refl, sym, ◌∙◌, ap, arith, ◌+◌, length-append}
 use Rattle.std.specs.Prelude.{IsErrAnd}
 use Rattle.std.specs.FinMap as map
 use Rattle.diagram_arena.specs.declared.nodes.Ref.{Ref}
@@ -72,3 +72,24 @@ invariant_of-self-2 c =
     let small : c.args.triple.bit < bit_end = omega (arith, deeper, within) in
     kept_pushed ns c.push.new.self.items limit c.len-2.result c.self.inside.ids.entries c.insert.new.self.entries c.args.triple (pushed c) (next c) c.self.invariant
     can needed small room (λ m. c.in-Ok.ensures.updates.0 m)
+
+-- how many nodes there are now
+long_now : (c : goal.In-Ok-push) → map.len (state_of c.push.new.self.items c.self.inside.limit).nodes ≡ length c.self.inside.nodes.items + 1
+long_now c =
+    len-state_of c.push.new.self.items c.self.inside.limit ∙ ap length (pushed c)
+    ∙ length-append c.self.inside.nodes.items (new_node c.args.triple ∷ [])
+
+pub returns-clause-rises : goal.returns-clause-rises
+returns-clause-rises c =
+    let seen = long_seen c.self.inside.nodes.items c.self.inside.limit c.args.self.now c.self.view_is in
+    let now = long_now c in
+    omega (arith, seen, now)
+
+pub returns-clause-within : goal.returns-clause-within
+returns-clause-within c =
+    let seen = long_seen c.self.inside.nodes.items c.self.inside.limit c.args.self.now c.self.view_is in
+    let now = long_now c in
+    let few = c.self.invariant.few in
+    let differ = c.if-len-self.false in
+    let limit = limit-state_of c.push.new.self.items c.self.inside.limit in
+    omega (arith, seen, now, few, differ, c.len.ensures.value, limit)

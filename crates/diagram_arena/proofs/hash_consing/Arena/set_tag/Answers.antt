@@ -1,6 +1,7 @@
 use Rattle.std.proofs.Common.{refl, arith}
 use Rattle.diagram_arena.specs.declared.nodes.Node.{Node}
 use Rattle.diagram_arena.proofs.States.{live_within, kept_set, changes_set, changes_table}
+use Rattle.diagram_arena.proofs.Kept.{len-set_state_of}
 use Rattle.diagram_arena.proofs.hash_consing.Arena.set_tag.Goals as goal
 
 pub index_mut-tagged-requires : goal.index_mut-tagged-requires
@@ -22,3 +23,6 @@ returns-clause-table c =
     let f = λ (n : Node). record n { tag = c.args.tag } in
     rw (← c.self.view_is) (changes_table _ _ c.args.id f (changes_set c.self.inside.nodes.items c.self.inside.limit c.args.id c.index_mut-tagged.result.now _
     (rw (← c.self.view_is) at c.requires) c.index_mut-tagged.ensures.value f refl) (λ n. refl))
+
+pub returns-clause-count : goal.returns-clause-count
+returns-clause-count c = rw (← c.self.view_is) (len-set_state_of c.self.inside.nodes.items c.args.id.0 _ c.self.inside.limit)
