@@ -19,7 +19,7 @@ use Rattle.diagram_arena.proofs.Reach.{reaches_only, part_depends}
 use Rattle.node_reclaim.specs.Pool.{PoolState}
 use Rattle.diagram_ops.specs.declared.question.Question.{Question}
 use Rattle.diagram_ops.specs.declared.question.Question.TheVariants.{Combine, Restrict}
-use Rattle.node_reclaim.specs.Growth.{NewAreUnmarked, Stays, NewArePartsOf, NewReachOnly}
+use Rattle.node_reclaim.specs.Growth.{NewAre, NewAreUnmarked, Stays, NewArePartsOf, NewReachOnly}
 use Rattle.diagram_ops.specs.Steps.{combine, side, first, AreLive, asked, IsAnswer, IsStep}
 
 -- tables that grow one after another

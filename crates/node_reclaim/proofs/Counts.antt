@@ -19,6 +19,7 @@ use Rattle.diagram_arena.specs.contracts.nodes.NodeIdOrd.TheImpl.{cmp-value}
 use Rattle.diagram_arena.specs.Table.{id_cmp, IsLive, IsReduced}
 use Rattle.diagram_arena.specs.Arena.{ArenaState, table}
 use Rattle.diagram_arena.proofs.Ids.{same_id, id_cmp_total, id_cmp-IsAntisymmetric, tied_same, tied_other}
+use Rattle.node_reclaim.specs.declared.pinning.Pool.TheInside.{Inside}
 use Rattle.node_reclaim.specs.Pool.{PoolState, pins_of, times, Pins, Unpins, pinned_refs}
 use Rattle.node_reclaim.specs.Body.{IsPool}
 
@@ -37,11 +38,20 @@ find-lookup q (e ∷ es) = λ i. cond (is_eq (derived q e.0)) (Some e.1) (find-l
 pub get-entries : (es : List (NodeId × ℕ)) (q : NodeId) → map.get (map.from_entries {R = id_cmp} es) q ≡ at q es
 get-entries es q = map.get-from_entries id_cmp_total es q ∙ find-lookup q es
 
--- the pool that has these entries
-abbrev pub state : ArenaState → List (NodeId × ℕ) → PoolState
-state a es = record { arena = a; counts = map.from_entries es }
+-- a pool but for its pins
+pub record Frame : Type 0 where
+  pub arena : ArenaState
+  pub units : ℕ
+  pub made : ℕ
 
-pub pins-state : (a : ArenaState) (es : List (NodeId × ℕ)) (q : NodeId) → pins_of (state a es) q ≡ unwrap_or (at q es) 0
+abbrev pub frame : Inside → Frame
+frame a = record { arena = a.arena; units = a.units; made = a.made }
+
+-- the pool that has these entries
+abbrev pub state : Frame → List (NodeId × ℕ) → PoolState
+state a es = record { arena = a.arena; counts = map.from_entries es; units = a.units; made = a.made }
+
+pub pins-state : (a : Frame) (es : List (NodeId × ℕ)) (q : NodeId) → pins_of (state a es) q ≡ unwrap_or (at q es) 0
 pins-state a es q = ap (λ o. unwrap_or o 0) (get-entries es q)
 
 -- the entries fs are es with w under the id i
@@ -91,7 +101,7 @@ one_less i es fs w puts less q =
           omega (arith, other, none)
     ]
 
-pub pins_put : (a : ArenaState) (i : NodeId) (es fs : List (NodeId × ℕ)) (w : Option ℕ) → Puts i w es fs → unwrap_or w 0 ≡ pins_of (state a es) i + 1
+pub pins_put : (a : Frame) (i : NodeId) (es fs : List (NodeId × ℕ)) (w : Option ℕ) → Puts i w es fs → unwrap_or w 0 ≡ pins_of (state a es) i + 1
     → Pins (state a es) (state a fs) (Node i ∷ [])
 pins_put a i es fs w puts more = record {
   only = refl;
@@ -99,7 +109,7 @@ pins_put a i es fs w puts more = record {
       ∙ ap (λ n. n + times q (Node i ∷ [])) (sym (pins-state a es q));
 }
 
-pub unpins_put : (a : ArenaState) (i : NodeId) (es fs : List (NodeId × ℕ)) (w : Option ℕ) → Puts i w es fs → unwrap_or w 0 + 1 ≡ pins_of (state a es) i
+pub unpins_put : (a : Frame) (i : NodeId) (es fs : List (NodeId × ℕ)) (w : Option ℕ) → Puts i w es fs → unwrap_or w 0 + 1 ≡ pins_of (state a es) i
     → Unpins (state a es) (state a fs) (Node i ∷ [])
 unpins_put a i es fs w puts less = record {
   only = refl;
@@ -108,25 +118,28 @@ unpins_put a i es fs w puts less = record {
 }
 
 -- what is pinned after a pin of a live node was there before, or is that node
-pub kept_pin : (a : ArenaState) (i : NodeId) (es fs : List (NodeId × ℕ)) → IsPool (state a es) → Pins (state a es) (state a fs) (Node i ∷ []) → IsLive (table a) (Node i) → IsPool (state a fs)
+pub kept_pin : (a : Frame) (i : NodeId) (es fs : List (NodeId × ℕ)) → IsPool (state a es) → Pins (state a es) (state a fs) (Node i ∷ []) → IsLive (table a.arena) (Node i) → IsPool (state a fs)
 kept_pin a i es fs kept pins live = record {
   reduced = kept.reduced;
   live = λ q some. elim (cases_eq i.0 q.0) [
-    | inl e ↦ subst (λ (j : NodeId). IsLive (table a) (Node j)) (same_id i q e) live
+    | inl e ↦ subst (λ (j : NodeId). IsLive (table a.arena) (Node j)) (same_id i q e) live
     | inr ne ↦ let none = times_other i q ne in let gained = pins.gained q in kept.live q (omega (arith, some, none, gained))
   ];
+  made = kept.made;
 }
 
-pub kept_unpin : (a : ArenaState) (i : NodeId) (es fs : List (NodeId × ℕ)) → IsPool (state a es) → Unpins (state a es) (state a fs) (Node i ∷ []) → IsPool (state a fs)
+pub kept_unpin : (a : Frame) (i : NodeId) (es fs : List (NodeId × ℕ)) → IsPool (state a es) → Unpins (state a es) (state a fs) (Node i ∷ []) → IsPool (state a fs)
 kept_unpin a i es fs kept unpins = record {
   reduced = kept.reduced;
   live = λ q some. let lost = unpins.lost q in kept.live q (omega (arith, some, lost));
+  made = kept.made;
 }
 
-pub kept_new : (a : ArenaState) → IsReduced (table a) → IsPool (state a [])
+pub kept_new : (a : ArenaState) → IsReduced (table a) → IsPool (state (record { arena = a; units = 0; made = 0 }) [])
 kept_new a ok = record {
   reduced = ok;
-  live = λ q some. let none = pins-state a [] q in absurd (omega (arith, some, none));
+  live = λ q some. let none = pins-state (record { arena = a; units = 0; made = 0 }) [] q in absurd (omega (arith, some, none));
+  made = omega arith;
 }
 
 -- an ordered map's entries are those of its finite map
@@ -154,7 +167,7 @@ entries-from_entries es up =
 abbrev pub once : NodeId × ℕ → List Ref
 once e = replicate e.1 (Node e.0)
 
-pub pinned_refs-state : (a : ArenaState) (es : List (NodeId × ℕ)) → IsStrictlySortedBy id_cmp (keys_of es) → pinned_refs (state a es) ≡ flat_map once es
+pub pinned_refs-state : (a : Frame) (es : List (NodeId × ℕ)) → IsStrictlySortedBy id_cmp (keys_of es) → pinned_refs (state a es) ≡ flat_map once es
 pinned_refs-state a es up = ap (flat_map once) (entries-from_entries es up)
 
 pub replicate_more : (n : ℕ) (r : Ref) → replicate (n + 1) r ≡ replicate n r ++ r ∷ []

@@ -121,7 +121,8 @@ impl Pool {
     {
         let before = self.arena.len();
         let answer = self.arena.make(bit, lo, hi);
-        self.made += u64::from(self.arena.len() - before);
+        let after = self.arena.len();
+        self.made += u64::from(after - before);
         answer
     }
 

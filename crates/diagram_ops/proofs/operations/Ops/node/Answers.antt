@@ -16,6 +16,8 @@ returns-clause-stays c = rw (← c.self.view_is) (record {
   untagged = c.make.ensures.untagged;
   limit = c.make.ensures.limit;
   counts = c.make.ensures.counts;
+  units = c.make.ensures.units_kept;
+  made = c.make.ensures.made_counted;
 })
 
 pub returns-clause-parts : goal.returns-clause-parts

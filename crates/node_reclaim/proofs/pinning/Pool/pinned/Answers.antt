@@ -3,7 +3,7 @@ use Rattle.std.specs.List.{flat_map}
 use Rattle.std.proofs.lemmas.List.{append-nil}
 use Rattle.diagram_arena.specs.declared.nodes.Ref.TheVariants.{Node}
 use Rattle.node_reclaim.specs.Pool.{times}
-use Rattle.node_reclaim.proofs.Counts.{once, pinned_refs-state, times-once, pins-state}
+use Rattle.node_reclaim.proofs.Counts.{frame, once, pinned_refs-state, times-once, pins-state}
 use Rattle.node_reclaim.proofs.pinning.Pool.pinned.Goals as goal
 
 pub loop-id-init : goal.loop-id-init
@@ -28,10 +28,10 @@ listed c =
 pub returns-clause-listed : goal.returns-clause-listed
 returns-clause-listed c =
     listed c
-    ∙ (rw (← c.self.view_is) (sym (pinned_refs-state c.self.inside.arena c.self.inside.pins.entries c.into_iter-id-iterator.ensures.into_iter_gives.5)))
+    ∙ (rw (← c.self.view_is) (sym (pinned_refs-state (frame c.self.inside) c.self.inside.pins.entries c.into_iter-id-iterator.ensures.into_iter_gives.5)))
 
 pub returns-clause-each : goal.returns-clause-each
 returns-clause-each c i =
     ap (times i) (listed c)
     ∙ times-once c.self.inside.pins.entries c.into_iter-id-iterator.ensures.into_iter_gives.5 i
-    ∙ (rw (← c.self.view_is) (sym (pins-state c.self.inside.arena c.self.inside.pins.entries i)))
+    ∙ (rw (← c.self.view_is) (sym (pins-state (frame c.self.inside) c.self.inside.pins.entries i)))
