@@ -8,4 +8,3 @@ pub mod Finding
 pub mod Keeping
 pub mod Making
 pub mod ValuesAt
-pub mod Samples

@@ -1,5 +1,5 @@
--- The word of a value: the list of its bits. This project's own; that a set is its membership bits is of Hawkins, Lagoon
--- and Stuckey, JAIR 2005.
+-- The word of a value: the list of its bits. This project's own; that a set is its membership bits is of Hawkins,
+-- Lagoon and Stuckey, JAIR 2005.
 use Rattle.std.specs.Prelude.{◌≡◌, ℕ, suc, zero, ◌+◌, ◌-◌, ◌/◌, ◌%◌, ◌^◌, ◌<◌, ◌≤◌, ◌==◌, Bool, ℤ, pos, ◌-ℤ◌, unsigned_abs, nat_lt, if◌then◌else◌, List, [], ◌∷◌, map, length, slice_get, unwrap_or}
 use Rattle.std.specs.List.{list_any}
 use Rattle.std.specs.Ordering.{int_eq}
@@ -66,8 +66,8 @@ width_of kind.Bool = 1
 width_of (kind.Int numbers) = bit_width (span numbers)
 width_of (kind.Set universe) = length universe
 
--- a Boolean is its one bit; an integer is the offset from the least, in binary; a set has one bit for each element of the
--- universe, ascending. A value of another sort than the kind's has no bits
+-- a Boolean is its one bit; an integer is the offset from the least, in binary; a set has one bit for each element of
+-- the universe, ascending. A value of another sort than the kind's has no bits
 abbrev pub word_of : Kind → Value → List Bool
 word_of kind.Bool (value.Bool b) = b ∷ []
 word_of (kind.Int numbers) (value.Int x) = binary (bit_width (span numbers)) (distance (least numbers) x)

@@ -20,8 +20,8 @@ use std::marker::Model;
 /// A bit, by its number in the order of all bits of a problem, counted from 0.
 pub type Bit = u32;
 
-/// All bits of a problem in one order, and the words of its variables' values: this project's own order. Contracts see it as the kinds of the
-/// variables and, for each bit, the place that it stands for.
+/// All bits of a problem in one order, and the words of its variables' values: this project's own order. Contracts
+/// see it as the kinds of the variables and, for each bit, the place that it stands for.
 #[derive(Drop)]
 pub struct Layout {
     kinds: Vec<Kind>,
@@ -43,10 +43,10 @@ impl Model for Layout {
 }
 
 impl Layout {
-    /// The layout of the problem, whose kinds are within the limits: integer variables with at most 65,535 between their
-    /// least and greatest value, and at most 1,048,576 bits in all, each variable counted as at least one. It keeps a copy
-    /// of the kinds, and takes time of the order of the bits times the logarithm of their number, and time and memory for the
-    /// integers and elements that the kinds list. An `Err` is want of memory.
+    /// The layout of the problem, whose kinds are within the limits: integer variables with at most 65,535 between
+    /// their least and greatest value, and at most 1,048,576 bits in all, each variable counted as at least one. It
+    /// keeps a copy of the kinds, and takes time of the order of the bits times the logarithm of their number, and
+    /// time and memory for the integers and elements that the kinds list. An `Err` is want of memory.
     pub fn new(alloc: Global, p: &Problem) -> Result<Layout, AllocError>
         requires { AreWithinLimits p.now.kinds }
         ensures kinds { IfOk result (λ layout. layout.kinds ≡ p.now.kinds) }
@@ -101,7 +101,8 @@ impl Layout {
         self.bits[(self.starts[v.0 as usize] + position) as usize]
     }
 
-    /// The variable to which a bit belongs, and its position in that variable's words. Takes no memory, and constant time.
+    /// The variable to which a bit belongs, and its position in that variable's words. Takes no memory, and constant
+    /// time.
     pub fn place(&self, bit: Bit) -> (VarId, u32)
         requires { bit < length self.now.places }
         ensures place { StandsFor self.now bit result.0 result.1 }
@@ -146,8 +147,8 @@ impl Layout {
         words::word_of(alloc, &self.kinds[v.0 as usize], value)
     }
 
-    /// The initial value of the variable whose word this is; None exactly where it is no initial value's, as a word between
-    /// the integers of a domain with holes. A set takes memory for its elements. An `Err` is want of memory.
+    /// The initial value of the variable whose word this is; None exactly where it is no initial value's, as a word
+    /// between the integers of a domain with holes. A set takes memory for its elements. An `Err` is want of memory.
     pub fn value_of(
         &self,
         alloc: Global,

@@ -1,9 +1,9 @@
 //! Words of values, and the order of all bits of a problem.
 //!
-//! The word of a value is its list of bits: a Boolean's one bit; an integer's offset from its variable's least value, in
-//! binary; for a set one bit an element of its variable's universe. A `Layout` puts the bits of all variables of a problem
-//! in one order: those of Booleans and integers in file order, and then those of sets, element by element. Definitions
-//! stand in specs/Words and specs/Order.
+//! The word of a value is its list of bits: a Boolean's one bit; an integer's offset from its variable's least value,
+//! in binary; for a set one bit an element of its variable's universe. A `Layout` puts the bits of all variables of a
+//! problem in one order: those of Booleans and integers in file order, and then those of sets, element by element.
+//! Definitions stand in specs/Words and specs/Order.
 #![tactic(auto)]
 
 mod laws;
@@ -18,6 +18,3 @@ pub use laws::{
 pub use layout::{Bit, Layout};
 pub use places::Place;
 pub use words::width;
-
-#[cfg(test)]
-mod tests;

@@ -1,5 +1,5 @@
--- The faults at the name of a constraint, or of a variable that is given a value. This project's own, after the FlatZinc builtins of
--- the MiniZinc Handbook.
+-- The faults at the name of a constraint, or of a variable that is given a value. This project's own, after the
+-- FlatZinc builtins of the MiniZinc Handbook.
 use Rattle.std.specs.Prelude.{◌≡◌, ◌≢◌, ◌⊎◌, ℕ, ◌+◌, ◌<◌, IsTrue, List, [], length, count_by, sum_by, Option, Some, None, IsSome}
 use Rattle.std.specs.Option.{IsSomeAnd}
 use Rattle.fzn_parser.specs.declared.tree.Expr.{Expr}

@@ -1,4 +1,5 @@
--- What single parts of a declaration are asked, for the functions that tell its faults. No rule is defined here, and nothing public cites it.
+-- What single parts of a declaration are asked, for the functions that tell its faults. No rule is defined here, and
+-- nothing public cites it.
 use Rattle.std.specs.Prelude.{◌≡◌, ℕ, List, Option, Some, None, ℤ, Any}
 use Rattle.fzn_parser.specs.declared.tree.Ann.{Ann}
 use Rattle.fzn_parser.specs.declared.tree.Number.{Number}

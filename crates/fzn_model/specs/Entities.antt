@@ -1,5 +1,5 @@
--- What names and expressions stand for, after the items before them. This project's own, after the FlatZinc grammar of the
--- MiniZinc Handbook.
+-- What names and expressions stand for, after the items before them. This project's own, after the FlatZinc grammar
+-- of the MiniZinc Handbook.
 use Rattle.std.specs.Prelude.{ℕ, if◌then◌else◌, List, [], ◌∷◌, reverse, count_by, Option, Some, None, option_and_then, ℤ}
 use Rattle.std.specs.Option.{option_map}
 use Rattle.fzn_parser.specs.declared.tree.Num.{Num}
@@ -100,8 +100,8 @@ entity t arg = option_and_then (λ sort. option_map (λ a. record { sort = sort;
 abbrev pub variable : ℕ → Arg
 variable number = One (Var (record { 0 = number }))
 
--- what the name that an item declares stands for: a parameter for its value, a scalar variable for the variable of this number,
--- an array for the list of its terms
+-- what the name that an item declares stands for: a parameter for its value, a scalar variable for the variable of
+-- this number, an array for the list of its terms
 abbrev pub entity_of : Naming → ℕ → Form → Option Entity
 entity_of naming number (forms.Param sort ident anns e) = entity sort.form (arg_of naming e)
 entity_of naming number (forms.Variable sort ident anns e) = entity sort.form (Some (variable number))
@@ -111,8 +111,8 @@ entity_of naming number _ = None
 abbrev pub count_variables : List Item → ℕ
 count_variables items = count_by (λ item. is_variable item.form) items
 
--- what a name stands for after these items, the last of them first: what the item that declares it makes of it, whose own names
--- have been declared before
+-- what a name stands for after these items, the last of them first: what the item that declares it makes of it, whose
+-- own names have been declared before
 abbrev pub stands_for : List Item → Naming
 stands_for [] name = None
 stands_for (item ∷ earlier) name =

@@ -1,5 +1,5 @@
--- How many elements a set literal has and how far they reach, which is told without making the set of a range. No rule is defined here, and nothing
--- public cites it.
+-- How many elements a set literal has and how far they reach, which is told without making the set of a range. No
+-- rule is defined here, and nothing public cites it.
 use Rattle.std.specs.Prelude.{◌≡◌, ◌↔◌, IsTrue, List, length, Option, Some, None, ℤ, Any}
 use Rattle.bit_layout.specs.Words.{span}
 use Rattle.fzn_model.specs.declared.extents.Extent.{Extent}

@@ -1,5 +1,6 @@
--- The faults of a tree, a rule for each, and the first of them. This project's own, after the FlatZinc grammar and builtins of the
--- MiniZinc Handbook. A rule speaks of an item with the items before it; every rule gives the place of its fault.
+-- The faults of a tree, a rule for each, and the first of them. This project's own, after the FlatZinc grammar and
+-- builtins of the MiniZinc Handbook. A rule speaks of an item with the items before it; every rule gives the place of
+-- its fault.
 use Rattle.std.specs.Prelude.{◌≡◌, ◌≢◌, ◌⊎◌, ℕ, ◌+◌, ◌<◌, ◌≤◌, true, false, IsTrue, List, [], ◌∷◌, ◌++◌, length, count_by, sum_by, slice_get, option_to_list, Option, Some, None, IsSome, ℤ, pos, unsigned_abs, Any, Contains}
 use Rattle.std.specs.List.{flat_map}
 use Rattle.fzn_parser.specs.declared.tree.Num.TheVariants as nums
@@ -67,7 +68,8 @@ constant_elements naming b = sum_by set_size (terms_of (arg_of_part naming b.for
 abbrev pub constant_elements_after : List Item → Item → ℕ
 constant_elements_after before item = sum_by (constant_elements (naming_after before)) (constrained_parts item.form)
 
--- how many terms the constraint has that an item adds behind others: those of its expressions, and the variable that is given a value
+-- how many terms the constraint has that an item adds behind others: those of its expressions, and the variable that
+-- is given a value
 abbrev pub own_terms : Form → ℕ
 own_terms (forms.Variable t ident anns (Some e)) = 1
 own_terms _ = 0

@@ -1,4 +1,5 @@
--- What the reading of a text ends in: its problem, or the first fault of the first stage that has one. This project's own.
+-- What the reading of a text ends in: its problem, or the first fault of the first stage that has one. This project's
+-- own.
 use Rattle.std.specs.Prelude.{◌≡◌, ℕ, List, length, Result, Ok, Err, Some}
 use Rattle.fzn_reader.specs.declared.tokens.Token.{Token}
 use Rattle.fzn_reader.specs.Scan.{AreTokensOf, IsFirstLexFault}

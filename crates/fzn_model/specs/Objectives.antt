@@ -1,4 +1,5 @@
--- The objective of an item, for the functions that tell its faults. No rule is defined here, and nothing public cites it.
+-- The objective of an item, for the functions that tell its faults. No rule is defined here, and nothing public cites
+-- it.
 use Rattle.std.specs.Prelude.{◌≡◌, Option, Some, None, ℤ}
 use Rattle.fzn_parser.specs.declared.tree.Expr.{Expr}
 use Rattle.fzn_parser.specs.declared.tree.Form.{Form}

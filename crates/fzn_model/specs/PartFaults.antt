@@ -1,4 +1,5 @@
--- The faults of the parts of expressions. This project's own, after the FlatZinc grammar and builtins of the MiniZinc Handbook.
+-- The faults of the parts of expressions. This project's own, after the FlatZinc grammar and builtins of the MiniZinc
+-- Handbook.
 use Rattle.std.specs.Prelude.{◌≡◌, ◌≢◌, ◌⊎◌, ⊤, ℕ, ◌+◌, ◌-◌, ◌^◌, ◌<◌, min, List, [], ◌∷◌, ◌++◌, length, map, sum_by, option_to_list, Option, Some, None, ℤ, Any, Contains}
 use Rattle.std.specs.Option.{option_map}
 use Rattle.fzn_parser.specs.declared.tree.Num.{Num}

@@ -130,8 +130,8 @@ is_newline byte = byte == 10
 abbrev pub after_newline : List ℕ → ℕ
 after_newline front = prefix_len (λ byte. not (is_newline byte)) (reverse front)
 
--- the line and the column of a place behind these bytes: one more than their newlines, and one more than the bytes behind the
--- last of these
+-- the line and the column of a place behind these bytes: one more than their newlines, and one more than the bytes
+-- behind the last of these
 unfoldable pub line_number : List ℕ → ℕ
 line_number front = 1 + count_by is_newline front
 

@@ -1,4 +1,5 @@
--- The problem of a tree, where it has no faults. This project's own, after the FlatZinc grammar of the MiniZinc Handbook.
+-- The problem of a tree, where it has no faults. This project's own, after the FlatZinc grammar of the MiniZinc
+-- Handbook.
 use Rattle.std.specs.Prelude.{ℕ, true, if◌then◌else◌, List, [], ◌∷◌, ◌++◌, length, map, reverse, Option, Some, None}
 use Rattle.std.specs.List.{flat_map}
 use Rattle.std.specs.Option.{option_map}
@@ -58,8 +59,8 @@ kinds_of items = each_after (λ before item. kinds_in item.form) [] items
 
 -- ---- constraints
 
--- a relation of arguments, and the term that is its truth value, where the last argument is to be that: the arguments are given
--- last first
+-- a relation of arguments, and the term that is its truth value, where the last argument is to be that: the arguments
+-- are given last first
 abbrev pub reified_constraint : Relation → List Arg → Option Constraint
 reified_constraint r (One t ∷ args) = Some (record { relation = r; args = reverse args; reif = Some t })
 reified_constraint r _ = None
@@ -128,7 +129,8 @@ shown_after before item = shown_in (naming_after before) (count_variables before
 
 -- ---- the goal
 
--- the variable of an objective, with the kind of one more variable where it is a constant. The number is that of the next variable
+-- the variable of an objective, with the kind of one more variable where it is a constant. The number is that of the
+-- next variable
 abbrev pub objective_var : ℕ → Arg → Option (VarId × List Kind)
 objective_var number (One (Var v)) = Some (v, [])
 objective_var number (One (Const (value.Int x))) = Some (record { 0 = number }, kind.Int (x ∷ []) ∷ [])
@@ -156,8 +158,8 @@ abbrev pub the_goal : List (Goal × List Kind) → Option (Goal × List Kind)
 the_goal (g ∷ []) = Some g
 the_goal _ = None
 
--- variables, constraints and shown items in file order, every name replaced by what it stands for; the goal; and behind all
--- variables an unnamed one for a constant objective
+-- variables, constraints and shown items in file order, every name replaced by what it stands for; the goal; and
+-- behind all variables an unnamed one for a constant objective
 abbrev pub problem_of : Tree → Option Problem
 problem_of tree = do
   kinds ← kinds_of tree.items

@@ -1,4 +1,5 @@
--- What each expression is asked to be, and whether it is. This project's own, after the FlatZinc builtins of the MiniZinc Handbook.
+-- What each expression is asked to be, and whether it is. This project's own, after the FlatZinc builtins of the
+-- MiniZinc Handbook.
 use Rattle.std.specs.Prelude.{◌≡◌, ℕ, Bool, true, false, List, [], ◌∷◌, ◌++◌, map, option_to_list, Option, Some, None, ⊤}
 use Rattle.std.specs.List.{flat_map, list_all, zip}
 use Rattle.std.specs.Option.{option_map}
@@ -70,7 +71,8 @@ typing_of_arg sort (Many ts) = record { sort = sort; is_array = true; is_constan
 abbrev pub constant : Sort → Typing
 constant sort = record { sort = sort; is_array = false; is_constant = true }
 
--- an integer that is too large is an integer all the same, and a set literal with a fault in it is a set. A float has no sort
+-- an integer that is too large is an integer all the same, and a set literal with a fault in it is a set. A float has
+-- no sort
 abbrev pub typing_of : Naming → BasicForm → Option Typing
 typing_of naming (basics.Bool b) = Some (constant Boolean)
 typing_of naming (basics.Num nums.Float) = None

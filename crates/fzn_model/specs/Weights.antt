@@ -1,4 +1,5 @@
--- What a variable counts against the limits on all variables, for the functions that count. No rule is defined here, and nothing public cites it.
+-- What a variable counts against the limits on all variables, for the functions that count. No rule is defined here,
+-- and nothing public cites it.
 use Rattle.std.specs.Prelude.{◌≡◌, Option, Some, None}
 use Rattle.set_meaning.specs.declared.kinds.Kind.{Kind}
 use Rattle.bit_layout.specs.Limits.{counted_bits}

@@ -8,8 +8,8 @@ use crate::names::ConstraintName;
 use set_meaning::{Row, Shape, Sort, row_of};
 use std::alloc::{AllocError, Global};
 
-/// The shapes of the arguments of a constraint of this name, in order: two or three of its relation, and one more Boolean where the
-/// name is reified.
+/// The shapes of the arguments of a constraint of this name, in order: two or three of its relation, and one more
+/// Boolean where the name is reified.
 pub(crate) fn argument_shapes(alloc: Global, name: ConstraintName) -> Result<Vec<Shape>, AllocError>
     ensures { IfOk result (λ shapes. shapes.items ≡ argument_shapes name) }
 {

@@ -24,8 +24,8 @@ use listed::Listed;
 use set_meaning::{Goal, Kind, Problem, Text};
 use std::alloc::{AllocError, Global};
 
-/// The problem of a tree, or its first fault: that with the least place, and of those at one place the one whose variant stands
-/// first. `Memory` is want of memory. Each use of a name is looked up in a hash table.
+/// The problem of a tree, or its first fault: that with the least place, and of those at one place the one whose
+/// variant stands first. `Memory` is want of memory. Each use of a name is looked up in a hash table.
 ///
 /// Source: FlatZinc in the MiniZinc Handbook, in the profile that docs/FORMATS.md gives, which lists the faults.
 pub fn build(alloc: Global, tree: &Tree) -> Result<Problem, ModelFault>

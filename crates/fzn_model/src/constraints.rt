@@ -33,8 +33,8 @@ const CONSTRAINT_LIMIT: u64 = 100_000;
 /// The most terms of all constraints together.
 const TERM_LIMIT: u128 = 4_194_304;
 
-/// The first fault at the name of the constraint that the item adds, if it adds one. `is_good` says that no argument has a fault.
-/// An `Err` is want of memory.
+/// The first fault at the name of the constraint that the item adds, if it adds one. `is_good` says that no argument
+/// has a fault. An `Err` is want of memory.
 pub(crate) fn fault_at_constraint(
     alloc: Global,
     so_far: &SoFar,
@@ -230,7 +230,8 @@ fn bits_at(kinds: &[Kind], variable: VarId) -> u32
 
 // ---- counts
 
-/// The fault at a constraint with which there are too many, or too many terms: `own` terms and those of these expressions.
+/// The fault at a constraint with which there are too many, or too many terms: `own` terms and those of these
+/// expressions.
 fn fault_of_counts(
     so_far: &SoFar,
     is_good: bool,

@@ -28,8 +28,8 @@ const SPAN_LIMIT: u64 = 65_535;
 /// The most elements of the universe of a set variable.
 const UNIVERSE_LIMIT: u128 = 512;
 
-/// The first fault in the item's declaration, but for its expression: its name, type, length and output annotation, and the bits
-/// of its variable with those before. An item that declares no name has none.
+/// The first fault in the item's declaration, but for its expression: its name, type, length and output annotation,
+/// and the bits of its variable with those before. An item that declares no name has none.
 pub(crate) fn fault_in_declaration(
     alloc: Global,
     so_far: &SoFar,

@@ -8,7 +8,8 @@ use listed::Listed;
 use set_meaning::{Arg, Sort, Term};
 use std::alloc::{AllocError, Global};
 
-/// What a declared name stands for: a term or an array of terms, with the sort of its declaration, which an empty array keeps.
+/// What a declared name stands for: a term or an array of terms, with the sort of its declaration, which an empty
+/// array keeps.
 #[derive(Drop, Debug)]
 pub(crate) struct Entity {
     pub sort: Sort,

@@ -23,8 +23,8 @@ pub(crate) struct Extent {
     pub has_large: bool,
 }
 
-/// The extent of a set literal; None where it has a float or an integer that is too large. A range is not made; a list is, doubles
-/// dropped, in the time of a sort.
+/// The extent of a set literal; None where it has a float or an integer that is too large. A range is not made; a
+/// list is, doubles dropped, in the time of a sort.
 pub(crate) fn extent_of(alloc: Global, literal: &SetForm) -> Result<Option<Extent>, AllocError>
     ensures { IfOk result (HasExtent (elements_of literal.now)) }
 {

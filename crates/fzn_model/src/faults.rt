@@ -5,8 +5,8 @@ use fzn_reader::LexFault;
 use std::alloc::{AllocError, AllocFailed};
 use thiserror::Error;
 
-/// Why a model has no problem, with the place of the fault, which is the number of bytes before it. The variants stand in the
-/// order in which faults at one place are told.
+/// Why a model has no problem, with the place of the fault, which is the number of bytes before it. The variants
+/// stand in the order in which faults at one place are told.
 #[derive(Clone, Copy, Debug, PartialEq, Eq, Error)]
 pub enum ModelFault {
     /// A name is used that no earlier item declares. The place is the name.
@@ -15,15 +15,15 @@ pub enum ModelFault {
     /// A declared name is declared again. The place is the name.
     #[error("declared twice")]
     DeclaredTwice { at: usize },
-    /// An expression has not the sort that its place asks for, or a variable stands where a constant must. The place is the
-    /// expression.
+    /// An expression has not the sort that its place asks for, or a variable stands where a constant must. The place
+    /// is the expression.
     #[error("wrong type")]
     WrongType { at: usize },
     /// No relation has the constraint's name. The place is the name.
     #[error("unknown constraint")]
     UnknownConstraint { at: usize },
-    /// The number of arguments is wrong, or the two lists of a linear constraint differ in length, or an array's length is not
-    /// that of its literal. The place is the name of the constraint or of the array.
+    /// The number of arguments is wrong, or the two lists of a linear constraint differ in length, or an array's
+    /// length is not that of its literal. The place is the name of the constraint or of the array.
     #[error("wrong count")]
     WrongCount { at: usize },
     /// A scalar is `var int` or `var set of int`. The place is the word `int`.
@@ -41,8 +41,9 @@ pub enum ModelFault {
     /// The greatest value of an integer variable is more than 65,535 above the least. The place is the set literal.
     #[error("integer too wide")]
     IntTooWide { at: usize },
-    /// A universe has more than 512 elements, or a constant set more than 65,536: the place is the set literal. Or the constant
-    /// sets in constraints have more than 16,777,216 together: the place is the occurrence that passes this number.
+    /// A universe has more than 512 elements, or a constant set more than 65,536: the place is the set literal. Or
+    /// the constant sets in constraints have more than 16,777,216 together: the place is the occurrence that passes
+    /// this number.
     #[error("set too wide")]
     SetTooWide { at: usize },
     /// An element of a universe or of a constant set is more than 1,000,000 in size. The place is the set literal.
@@ -51,12 +52,12 @@ pub enum ModelFault {
     /// The variables of a constraint have more than 2,048 bits. The place is the constraint's name.
     #[error("scope too wide")]
     ScopeTooWide { at: usize },
-    /// The variables so far have more than 1,048,576 bits, each counted as at least one, or the integer variables so far more
-    /// than 67,108,864 values in all. The place is the variable's name, or the constant objective.
+    /// The variables so far have more than 1,048,576 bits, each counted as at least one, or the integer variables so
+    /// far more than 67,108,864 values in all. The place is the variable's name, or the constant objective.
     #[error("too many bits")]
     TooManyBits { at: usize },
-    /// The constraint is the 100,001st, or the terms so far are more than 4,194,304. The place is the name of the constraint, or
-    /// of the variable that is given a value.
+    /// The constraint is the 100,001st, or the terms so far are more than 4,194,304. The place is the name of the
+    /// constraint, or of the variable that is given a value.
     #[error("too many constraints")]
     TooManyConstraints { at: usize },
     /// An output annotation that does not fit its item, or whose arguments are not those of its form. The place is the

@@ -1,5 +1,5 @@
-//! From the tree of a FlatZinc model to its problem, or to the first fault of the model, and the line that is printed for a
-//! faulty text.
+//! From the tree of a FlatZinc model to its problem, or to the first fault of the model, and the line that is printed
+//! for a faulty text.
 //!
 //! Source: FlatZinc in the MiniZinc Handbook, in the profile that docs/FORMATS.md gives.
 #![tactic(auto)]
@@ -42,8 +42,3 @@ pub use lines::fault_line;
 pub use names::{ConstraintName, named};
 pub use reading::read_problem;
 pub use texts::fault_text;
-
-#[cfg(test)]
-mod tests;
-#[cfg(test)]
-mod tests_of_texts;

@@ -11,9 +11,10 @@ use fzn_reader::LexFault;
 use itoa::Buffer;
 use std::alloc::{AllocError, Global};
 
-/// The line that is printed for a faulty text, with its newline: `% error line L column C: TEXT`. TEXT is [`crate::fault_text`] of
-/// the fault, L is one more than the newlines before its place, and C one more than the bytes since the last of them. `text` is
-/// the text that has the fault; want of memory has no line and is not asked for. Linear in the length of the text.
+/// The line that is printed for a faulty text, with its newline: `% error line L column C: TEXT`. TEXT is
+/// [`crate::fault_text`] of the fault, L is one more than the newlines before its place, and C one more than the
+/// bytes since the last of them. `text` is the text that has the fault; want of memory has no line and is not asked
+/// for. Linear in the length of the text.
 ///
 /// The form is this project's own.
 pub fn fault_line(alloc: Global, text: &[u8], fault: &FileFault) -> Result<Vec<u8>, AllocError>

@@ -27,8 +27,8 @@ use set_meaning::{Arg, Shape, Sort, Term, Value};
 /// What the unnamed variable of a constant objective counts: it has one value.
 const ONE_VALUE: Weight = Weight { bits: 1, values: 1 };
 
-/// The first fault of the item's objective: that it is no integer, or that the unnamed variable of a constant one is too much. An
-/// item without an objective has none.
+/// The first fault of the item's objective: that it is no integer, or that the unnamed variable of a constant one is
+/// too much. An item without an objective has none.
 pub(crate) fn fault_in_objective(so_far: &SoFar, before: &[Item], item: &Item) -> Option<ModelFault>
     requires { AreSoFar before.now so_far.now }
     ensures { IsFirstOf (InObjective before.now item.now) result }

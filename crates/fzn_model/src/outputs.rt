@@ -50,7 +50,8 @@ pub(crate) fn shows_scalar(ann: &Ann) -> bool
     is_output_var(ann) && ann.args.is_none()
 }
 
-/// The dimensions under which the annotation shows an array of `count` items; None where it does not show such an array.
+/// The dimensions under which the annotation shows an array of `count` items; None where it does not show such an
+/// array.
 pub(crate) fn dims_by(
     alloc: Global,
     count: usize,
@@ -77,8 +78,8 @@ fn if_fit(count: usize, dims: Vec<Dim>) -> Option<Vec<Dim>>
     }
 }
 
-/// The dimensions that an annotation's one argument lists; None where it has another number of arguments, or one that is no
-/// list of set literals without floats and large integers.
+/// The dimensions that an annotation's one argument lists; None where it has another number of arguments, or one that
+/// is no list of set literals without floats and large integers.
 fn dims_in(alloc: Global, ann: &Ann) -> Result<Option<Vec<Dim>>, AllocError>
     ensures { IfOk result (λ dims. option_map (λ d. d.items) dims ≡ dims_in (annotation_of ann.now).args) }
 {

@@ -78,7 +78,8 @@ fn name_in(alloc: Global, form: &Form) -> Result<Option<Text>, AllocError>
     }
 }
 
-/// What the name that an item declares stands for; None where it stands for nothing. `number` is that of the next variable.
+/// What the name that an item declares stands for; None where it stands for nothing. `number` is that of the next
+/// variable.
 fn entity_of(
     alloc: Global,
     declared: &Declared,
@@ -339,7 +340,8 @@ fn terms_in(alloc: Global, arg: Arg) -> Result<Listed<Term>, AllocError>
     }
 }
 
-/// The goal of an item, with the kind of one more variable where its objective is a constant; None where it has no goal.
+/// The goal of an item, with the kind of one more variable where its objective is a constant; None where it has no
+/// goal.
 fn goal_in(
     alloc: Global,
     declared: &Declared,

@@ -15,11 +15,12 @@ use fzn_reader::{LexFault, Token, lex};
 use set_meaning::Problem;
 use std::alloc::Global;
 
-/// The problem of a text, or its first fault. A text passes each stage as a whole before the next begins: its tokens, its tree, its
-/// problem. Its length is not measured here.
+/// The problem of a text, or its first fault. A text passes each stage as a whole before the next begins: its tokens,
+/// its tree, its problem. Its length is not measured here.
 ///
-/// Source: FlatZinc in the MiniZinc Handbook, in the profile of docs/FORMATS.md, which has the grammar, the faults and the limits.
-/// Time is of the order of the text and the problem; where a literal in braces is sorted, times a logarithm.
+/// Source: FlatZinc in the MiniZinc Handbook, in the profile of docs/FORMATS.md, which has the grammar, the faults
+/// and the limits. Time is of the order of the text and the problem; where a literal in braces is sorted, times a
+/// logarithm.
 pub fn read_problem(alloc: Global, text: &[u8]) -> Result<Problem, FileFault>
     ensures problem { IfOk result (IsProblemOf text.now) }
     ensures fault { IfErr result (λ e. (e ≡ faults.Memory) ⊎ IsFaultOf text.now e) }

@@ -21,8 +21,8 @@ pub(crate) enum Measure {
     Set(SetValue),
 }
 
-/// The elements of the literal, where there are at most `limit` of them. A range that is too wide is not made; a list is, doubles
-/// dropped, in the time of a sort.
+/// The elements of the literal, where there are at most `limit` of them. A range that is too wide is not made; a list
+/// is, doubles dropped, in the time of a sort.
 pub(crate) fn measured(alloc: Global, literal: &SetForm, limit: u64) -> Result<Measure, AllocError>
     requires { limit ≤ 65536 }
     ensures { IfOk result (IsMeasured (elements_of literal.now) limit) }

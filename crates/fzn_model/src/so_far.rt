@@ -3,8 +3,8 @@
 use crate::declared::Declared;
 use set_meaning::Kind;
 
-/// What the items so far come to, none of which has a fault: the names that they declare, the kinds of their variables, and what is
-/// counted over them.
+/// What the items so far come to, none of which has a fault: the names that they declare, the kinds of their
+/// variables, and what is counted over them.
 #[derive(Drop)]
 pub(crate) struct SoFar {
     pub declared: Declared,

@@ -8,8 +8,8 @@ use fzn_parser::{SyntaxFault, What};
 use fzn_reader::LexFault;
 use std::alloc::{AllocError, Global};
 
-/// The fault in words, without its place and without a newline: `expected ';'`, `undeclared` and the like. `alloc` is where the
-/// text is made. Want of memory has no words and is not asked for.
+/// The fault in words, without its place and without a newline: `expected ';'`, `undeclared` and the like. `alloc` is
+/// where the text is made. Want of memory has no words and is not asked for.
 ///
 /// The words are this project's own.
 pub fn fault_text(alloc: Global, fault: &FileFault) -> Result<Vec<u8>, AllocError>

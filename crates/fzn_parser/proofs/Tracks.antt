@@ -1,5 +1,5 @@
--- What is to come, followed over tokens to the first one that cannot come or opens too deep, and that each reader follows
--- just this: it reads on where the tokens go on, and stops where they stop, with the same fault.
+-- What is to come, followed over tokens to the first one that cannot come or opens too deep, and that each reader
+-- follows just this: it reads on where the tokens go on, and stops where they stop, with the same fault.
 use Rattle.std.proofs.Common.{◌≡◌, ℕ, zero, suc, ◌≤◌, Bool, true, false, cond, List, [], ◌∷◌, ◌++◌, length, Option, Some, None, Result, Ok, Err, sym, refl, ap, ◌∙◌, subst, arith, append_assoc, ltb}
 use Rattle.std.specs.Option.{option_map, option_or}
 use Rattle.std.proofs.lemmas.Bool.{cond-false, le-ltb}
@@ -17,8 +17,8 @@ use Rattle.fzn_parser.specs.ToCome.{Part, must, a_name, an_integer, a_number, li
 use Rattle.fzn_parser.specs.Reading.{◌>>=◌, Reader, first, after, goes_on, one_more, more_in, more, from_first, a_list, number_by, number, integer_by, integer, range_from, braced, ident_by, ident}
 use Rattle.fzn_parser.proofs.Leaves.{Keeps, Leaves, number_keeps}
 
--- how tokens end where some parts were to come: the parts are all there, some are lacking, a token cannot come, or a bracket
--- is too deep
+-- how tokens end where some parts were to come: the parts are all there, some are lacking, a token cannot come, or a
+-- bracket is too deep
 pub data Outcome : Type 0 where
   complete : Outcome
   cut : Outcome

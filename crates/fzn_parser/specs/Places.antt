@@ -1,5 +1,5 @@
--- Where the parts of an item lie, and the numbers in it. Of an annotation only its own place counts, not what is in its brackets.
--- This project's own, over the FlatZinc grammar of the MiniZinc Handbook.
+-- Where the parts of an item lie, and the numbers in it. Of an annotation only its own place counts, not what is in
+-- its brackets. This project's own, over the FlatZinc grammar of the MiniZinc Handbook.
 use Rattle.std.specs.Prelude.{◌≡◌, ℕ, ◌<◌, ⊤, List, [], ◌∷◌, ◌++◌, map, flat_map, option_to_list, Option, Some, None, All, Contains, pos, neg_ℤ, ◌≤ℤ◌}
 use Rattle.fzn_parser.specs.declared.faults.SyntaxFault.{SyntaxFault}
 use Rattle.fzn_parser.specs.declared.faults.SyntaxFault.TheVariants as faults

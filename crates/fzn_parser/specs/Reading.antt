@@ -1,7 +1,7 @@
--- No definition of the language (Grammar and ToCome are that), and cited by no public contract: what the private functions
--- of the parser answer. What is read from the front of tokens, as functions on lists: a part and the tokens after it, or
--- the first fault. That it is what the grammar says is proved of these. The number that each takes first is the place
--- where the text ends.
+-- No definition of the language (Grammar and ToCome are that), and cited by no public contract: what the private
+-- functions of the parser answer. What is read from the front of tokens, as functions on lists: a part and the tokens
+-- after it, or the first fault. That it is what the grammar says is proved of these. The number that each takes first
+-- is the place where the text ends.
 use Rattle.std.specs.Prelude.{◌≡◌, ◌≢◌, ℕ, zero, suc, Bool, true, false, if◌then◌else◌, List, [], ◌∷◌, ◌++◌, length, Option, Some, None, Result, Ok, Err, pos}
 use Rattle.std.specs.Borrow.{Bor}
 use Rattle.fzn_reader.specs.declared.tokens.Token.{Token}

@@ -1,6 +1,6 @@
 -- What is to come after the first tokens of a model: the grammar symbols that they leave open, the next one first.
--- This is the FlatZinc grammar of the MiniZinc Handbook again, each production behind its first token; that both are one
--- language is a law (`what_is_to_come`).
+-- This is the FlatZinc grammar of the MiniZinc Handbook again, each production behind its first token; that both are
+-- one language is a law (`what_is_to_come`).
 use Rattle.std.specs.Prelude.{ℕ, suc, Bool, true, false, if◌then◌else◌, List, [], ◌∷◌, ◌++◌, Option, Some, None, option_and_then, pos}
 use Rattle.std.specs.Option.{option_map, option_or}
 use Rattle.std.specs.Ordering.{int_eq}
@@ -48,8 +48,8 @@ pub data Part : Type 0 where
   annotation : Part
   -- aexpr
   argument : Part
-  -- what follows the opening bracket of a list of such parts, and what follows one of its parts: the bracket that closes
-  -- the list, and how this bracket and the comma are named
+  -- what follows the opening bracket of a list of such parts, and what follows one of its parts: the bracket that
+  -- closes the list, and how this bracket and the comma are named
   list_of : Part → Symbol → What → Part
   more_of : Part → Symbol → What → Part
   -- what may be missing: anns, the arguments after the name of an annotation, `..` num, `=` expr

@@ -1,7 +1,7 @@
 //! Annotations.
 //!
-//! The brackets of annotations nest at most [`MAX_DEPTH`] deep, which bounds the recursion of these functions: `depth` is
-//! how many more may be opened.
+//! The brackets of annotations nest at most [`MAX_DEPTH`] deep, which bounds the recursion of these functions:
+//! `depth` is how many more may be opened.
 
 ghost use Rattle.std.specs.Prelude.{◌≡◌, length};
 ghost use Rattle.fzn_reader.specs.Text.{bytes_of};

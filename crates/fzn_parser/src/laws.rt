@@ -14,7 +14,8 @@ ghost use Rattle.fzn_parser.specs.Places.{places_in, numbers_in, IsSmall, AreInO
 
 use fzn_reader::tokens_are_told_by_the_text;
 
-/// A law: tokens spell one tree at most, and a parse of them ends in just one tree or fault. `n` is where the text ends.
+/// A law: tokens spell one tree at most, and a parse of them ends in just one tree or fault. `n` is where the text
+/// ends.
 pub fn tokens_tell_the_tree()
     ensures unambiguous { (xs : List Sign) (a b : AnyTree) → Spells xs a → Spells xs b → a ≡ b }
     ensures one_end { (n : ℕ) (xs : List Sign) (a b : Result AnyTree AnyFault)
@@ -29,8 +30,9 @@ pub fn what_is_to_come()
     ensures begun { (xs : List Sign) → BeginsModel xs ↔ IsSome (to_come xs) }
 {}
 
-/// A law: the parts of a text's tree lie within the text, in the order of its items, and a first fault lies within it too,
-/// or at its end. The last item is the solve item, and no other is. An integer of an item is at most 1,000,000,000 in size.
+/// A law: the parts of a text's tree lie within the text, in the order of its items, and a first fault lies within it
+/// too, or at its end. The last item is the solve item, and no other is. An integer of an item is at most
+/// 1,000,000,000 in size.
 pub fn trees_are_in_order()
     ensures in_order { (text : List ℕ) (tokens : List AnyToken) (tree : AnyTree)
         → AreTokensOf text tokens → Spells (signs text tokens) tree → AreInOrder tree }

@@ -23,6 +23,3 @@ pub use tree::{
     Ann, AnnArg, AnnForm, Basic, BasicForm, Expr, Form, GoalForm, Ident, Item, Num, Number,
     SetForm, Text, Tree, TypeExpr, TypeForm,
 };
-
-#[cfg(test)]
-mod tests;

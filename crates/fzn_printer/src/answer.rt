@@ -13,9 +13,9 @@ use std::alloc::{AllocError, Global};
 /// the line `----------`. `values` has one value a variable; a term whose variable has none is printed as nothing.
 ///
 /// An item without dimensions is printed as its terms, one after another (in a problem of a text: one), any other as
-/// `arrayKd(D1, .., DK, [V1, V2])`: a dimension as it was written, with `L..H` for a range and braces for a list. Booleans are `false` and `true`, integers decimal,
-/// sets `{1,2,3}`, ascending and without spaces (MiniZinc Handbook, "Solution Output"). Takes time linear in what is
-/// printed. An `Err` is want of memory.
+/// `arrayKd(D1, .., DK, [V1, V2])`: a dimension as it was written, with `L..H` for a range and braces for a list.
+/// Booleans are `false` and `true`, integers decimal, sets `{1,2,3}`, ascending and without spaces (MiniZinc
+/// Handbook, "Solution Output"). Takes time linear in what is printed. An `Err` is want of memory.
 pub fn block(alloc: Global, p: &Problem, values: &[Value]) -> Result<Vec<u8>, AllocError>
     ensures { IfOk result (λ bytes. bytes.items ≡ block p.now values.now) }
 {

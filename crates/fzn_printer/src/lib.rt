@@ -13,6 +13,3 @@ mod value;
 pub use answer::block;
 pub use lines::{COMPLETE, SEPARATOR, UNKNOWN, UNSATISFIABLE};
 pub use root::root_line;
-
-#[cfg(test)]
-mod tests;

@@ -31,7 +31,8 @@ base_of [] = None
 base_of (a ∷ []) = None
 base_of (a ∷ b ∷ bytes) = if a == 48 then base_of_letter b else None
 
--- what the bytes after `0x` or `0o` make of it: no digits where there are none, an integer where all are digits of the base
+-- what the bytes after `0x` or `0o` make of it: no digits where there are none, an integer where all are digits of
+-- the base
 abbrev pub number_in : ℕ → List ℕ → Option Numeral
 number_in base [] = Some no_digits
 number_in base (b ∷ bytes) =

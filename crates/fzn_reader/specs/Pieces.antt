@@ -1,6 +1,6 @@
--- What a piece of text is. Each kind of piece is told on whole pieces, apart from every other kind.
--- Source: the FlatZinc grammar of the MiniZinc Handbook. This project's own are the reserved words, the limit of an integer,
--- that a `_` leads to a letter, that a `\` in a string takes any byte but a newline with it, and that no token begins at a
+-- What a piece of text is. Each kind of piece is told on whole pieces, apart from every other kind. Source: the
+-- FlatZinc grammar of the MiniZinc Handbook. This project's own are the reserved words, the limit of an integer, that
+-- a `_` leads to a letter, that a `\` in a string takes any byte but a newline with it, and that no token begins at a
 -- `0x` or `0o` without digits.
 use Rattle.std.specs.Prelude.{◌≡◌, ℕ, ◌<◌, ◌≤◌, Bool, true, false, not, ◌&&◌, ◌||◌, ◌==◌, nat_le, if◌then◌else◌, List, [], ◌∷◌, length, take, drop, slice_index, Option, Some, None, pos, neg_ℤ}
 use Rattle.std.specs.Option.{option_map, option_or}
@@ -72,8 +72,8 @@ number_piece (b ∷ bytes) = if b == 45 then unsigned_piece true bytes else unsi
 
 -- ---- strings
 
--- what follows the opening `"` of a string: bytes other than `"`, which is 34, and newline, which is 10, where `\`, which
--- is 92, takes the next byte with it, but no newline; then the closing `"`
+-- what follows the opening `"` of a string: bytes other than `"`, which is 34, and newline, which is 10, where `\`,
+-- which is 92, takes the next byte with it, but no newline; then the closing `"`
 abbrev pub closes : List ℕ → Bool
 closes [] = false
 closes (b ∷ []) = b == 34

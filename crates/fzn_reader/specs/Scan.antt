@@ -1,6 +1,5 @@
--- How a text is cut into tokens and gaps, and the first place at which it cannot be.
--- Source: the FlatZinc grammar of the MiniZinc Handbook, which leaves the longest token unsaid; that and the faults are this
--- project's own.
+-- How a text is cut into tokens and gaps, and the first place at which it cannot be. Source: the FlatZinc grammar of
+-- the MiniZinc Handbook, which leaves the longest token unsaid; that and the faults are this project's own.
 use Rattle.std.specs.Prelude.{◌≡◌, ℕ, ◌-◌, ◌<◌, ◌≤◌, ⊤, List, [], ◌∷◌, length, drop, Option, Some, None, Result, Ok, Err}
 use Rattle.std.specs.List.{filter_map}
 use Rattle.fzn_reader.specs.declared.tokens.TokenKind.{TokenKind}
@@ -49,8 +48,8 @@ pub record IsReached (text : List ℕ) (at : ℕ) : Type 0 where
   pub lead : LeadFrom text 0 parts at
   pub within : at < length text
 
--- the first fault of a text: the place that tokens and gaps lead to, where neither begins. Want of memory is no fault of
--- a text.
+-- the first fault of a text: the place that tokens and gaps lead to, where neither begins. Want of memory is no fault
+-- of a text.
 abbrev pub IsFirstLexFault : List ℕ → LexFault → Type 0
 IsFirstLexFault text (faults.BadByte at) = IsReached text at × BeginsNoPiece (drop at text)
 IsFirstLexFault text (faults.BadNumber at) = IsReached text at × LacksDigits (drop at text)

@@ -72,9 +72,9 @@ fn append_piece(
 
 /// The tokens of `text` in their order, or its first fault; `alloc` is where the list is made.
 ///
-/// At each place the longest token is taken. Separators and comments lie between tokens and give none. A token's range has
-/// the `-` of a number and the quotes of a string, and its bytes stay in `text`. A place, also that of a fault, is the
-/// number of bytes before it. The work is linear in the length of the text.
+/// At each place the longest token is taken. Separators and comments lie between tokens and give none. A token's
+/// range has the `-` of a number and the quotes of a string, and its bytes stay in `text`. A place, also that of a
+/// fault, is the number of bytes before it. The work is linear in the length of the text.
 ///
 /// Source: the FlatZinc grammar of the MiniZinc Handbook.
 pub fn lex(alloc: Global, text: &[u8]) -> Result<Vec<Token>, LexFault>

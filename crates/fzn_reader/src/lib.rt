@@ -16,6 +16,3 @@ mod words;
 pub use laws::tokens_are_told_by_the_text;
 pub use lexer::{LexFault, lex};
 pub use tokens::{INT_LIMIT, Symbol, Token, TokenKind, Word};
-
-#[cfg(test)]
-mod tests;

@@ -35,16 +35,3 @@ impl<T> Listed<T> {
         self.vec.as_slice()
     }
 }
-
-#[cfg(test)]
-mod tests {
-    use super::*;
-    use std::test::Fail;
-
-    #[test]
-    fn keeps_the_items_in_order(rt: HostRuntime) -> Result<(), Fail> {
-        let list = Listed::of([3u8, 1, 3].to_vec(rt.alloc())?);
-        assert_eq!(rt; list.items(), [3u8, 1, 3].as_slice());
-        Ok(())
-    }
-}

@@ -28,7 +28,8 @@ pub plain_decimal : (n : ℕ) → n < 2 ^ 64 → HasPlainStart (decimal n)
 plain_decimal zero small = record { some = decimal_nonempty 0 (lit< tt); plain = λ _. ap length (decimal_digit 0 (lit< tt)) }
 plain_decimal (suc n) small = record { some = decimal_nonempty (suc n) small; plain = λ h. absurd (omega (arith, h, first_decimal (suc n) (omega arith) small)) }
 
--- what is no row of digits, or one of a number past the limit, or has a leading zero, is the spelling of no number up to the limit
+-- what is no row of digits, or one of a number past the limit, or has a leading zero, is the spelling of no number up
+-- to the limit
 pub no_number : (word : List ℕ) (limit : ℕ) → limit ≤ 2 ^ 40 → (all_ascii_digits word ≡ true → limit < read_on 0 word) → (n : ℕ) → n ≤ limit → word ≡ decimal n → ⊥
 no_number word limit small past n within is =
     let fits : n < 2 ^ 64 = omega (arith, small, within) in

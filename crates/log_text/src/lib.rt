@@ -18,6 +18,3 @@ pub use line::{Ints, Line, LineFault, LogValue, LogValues, Sides};
 pub use read::read_line;
 pub use spelling::spellings_are_apart;
 pub use write::write_line;
-
-#[cfg(test)]
-mod tests;

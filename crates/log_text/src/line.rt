@@ -27,13 +27,14 @@ pub enum LogValue {
 }
 
 /// A line of a log. Nodes are numbered from 2, since 0 is the node that accepts nothing and 1 the one that accepts
-/// everything; boxes of all three kinds are numbered together from 0. A line has a spelling only where each number is at
-/// most 2^40.
+/// everything; boxes of all three kinds are numbered together from 0. A line has a spelling only where each number is
+/// at most 2^40.
 #[derive(Debug, Drop)]
 pub enum Line {
     /// The first line.
     Header,
-    /// Node `number` tests position `place` of a word, and leads to `lo` where that bit is false, to `hi` where it is true.
+    /// Node `number` tests position `place` of a word, and leads to `lo` where that bit is false, to `hi` where it is
+    /// true.
     Node {
         number: u64,
         place: u64,

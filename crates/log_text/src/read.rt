@@ -21,8 +21,8 @@ const MAX_NUMBER: u64 = 1 << 40;
 
 /// The line that `bytes` spell, without the newline that ends it in a log.
 ///
-/// `BadForm` says that no line has this spelling; `Memory` says nothing of the bytes. Takes time linear in the length of
-/// the bytes, and memory linear in the line that is read.
+/// `BadForm` says that no line has this spelling; `Memory` says nothing of the bytes. Takes time linear in the length
+/// of the bytes, and memory linear in the line that is read.
 pub fn read_line(alloc: Global, bytes: &[u8]) -> Result<Line, LineFault>
     ensures spelled { IfOk result (λ line. HasSpelling line × (spelling line ≡ bytes.now)) }
     // No other line has this spelling.

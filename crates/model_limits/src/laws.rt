@@ -11,7 +11,8 @@ use fzn_parser::trees_are_in_order;
 use model_legality::problems_of_texts_are_problems;
 use set_meaning::Problem;
 
-/// Does nothing. Its contract is the law that the problem of a text keeps the limits that diagrams need, for callers that read one.
+/// Does nothing. Its contract is the law that the problem of a text keeps the limits that diagrams need, for callers
+/// that read one.
 pub fn problems_of_texts_keep_limits(text: &[u8], p: &Problem)
     ensures { IsProblemOf text.now p.now → KeepsLimits p.now }
 {

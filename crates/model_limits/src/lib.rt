@@ -4,6 +4,3 @@
 mod laws;
 
 pub use laws::problems_of_texts_keep_limits;
-
-#[cfg(test)]
-mod tests;

@@ -1,6 +1,6 @@
--- The limits on sizes that diagrams need; that the problem of a text keeps them has no proof yet. Of the limits of a text those on the elements of sets, on the
--- sizes of universes and constant sets, on the values of all integer variables together and on the terms of all constraints together are
--- not among them. This project's own.
+-- The limits on sizes that diagrams need; that the problem of a text keeps them has no proof yet. Of the limits of a
+-- text those on the elements of sets, on the sizes of universes and constant sets, on the values of all integer
+-- variables together and on the terms of all constraints together are not among them. This project's own.
 use Rattle.std.specs.Prelude.{ℕ, ◌≤◌, ℤ, unsigned_abs, List, length, All, sum_by, slice_get, ⊤}
 use Rattle.std.specs.List.{flat_map}
 use Rattle.std.specs.Option.{option_map_or}

@@ -19,8 +19,8 @@ const TERM_LIMIT: u128 = 4_194_304;
 const SCOPE_LIMIT: u32 = 2048;
 
 /// Whether the constraint, over variables of these kinds, keeps the limits: integer constants from -1,000,000,000 to
-/// 1,000,000,000, at most 4,194,304 terms, and variables of at most 2,048 bits in all. It takes the time and memory of a sort of
-/// the constraint's variables. An `Err` is want of memory.
+/// 1,000,000,000, at most 4,194,304 terms, and variables of at most 2,048 bits in all. It takes the time and memory
+/// of a sort of the constraint's variables. An `Err` is want of memory.
 pub fn is_within_limits(alloc: Global, kinds: &[Kind], c: &Constraint) -> Result<bool, AllocError>
     requires { AreWithinLimits kinds.now }
     ensures { IfOk result (λ within. IsTrue within ↔ IsWithinLimits kinds.now c.now) }

@@ -18,9 +18,9 @@ const BIT_LIMIT: u128 = 1_048_576;
 /// The largest size of an integer.
 const NUMBER_LIMIT: u64 = 1_000_000_000;
 
-/// Whether a layout can be made of the kinds: each integer variable has a value, and at most 65,535 between its least and its
-/// greatest, and there are at most 1,048,576 bits in all, each variable counted as at least one. Takes no memory, and time for
-/// each kind once.
+/// Whether a layout can be made of the kinds: each integer variable has a value, and at most 65,535 between its least
+/// and its greatest, and there are at most 1,048,576 bits in all, each variable counted as at least one. Takes no
+/// memory, and time for each kind once.
 pub fn are_within_limits(kinds: &[Kind]) -> bool
     ensures { IsTrue result ↔ AreWithinLimits kinds.now }
 {

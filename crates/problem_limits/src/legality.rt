@@ -9,7 +9,8 @@ ghost use Rattle.problem_limits.specs.Parts.{HasSomeSort};
 use crate::kinds::are_kinds;
 use set_meaning::{Constraint, Dim, Goal, Kind, Problem, Shown, Term, Value, VarId, fits_row};
 
-/// Whether the problem is well formed, but for limits on sizes. Takes no memory, and time for each part of the problem once.
+/// Whether the problem is well formed, but for limits on sizes. Takes no memory, and time for each part of the
+/// problem once.
 pub(crate) fn is_problem(p: &Problem) -> bool
     ensures { IsTrue result ↔ IsProblem p.now }
 {

@@ -1,6 +1,7 @@
 //! The limits on sizes that diagrams need, which every problem of a text keeps, and whether a problem keeps them.
 //!
-//! Definitions stand in specs/Limits. Where a layer above asks for a problem within the limits, `keeps_limits` is the test.
+//! Definitions stand in specs/Limits. Where a layer above asks for a problem within the limits, `keeps_limits` is the
+//! test.
 #![tactic(auto)]
 
 mod constraints;
@@ -11,6 +12,3 @@ mod problems;
 pub use constraints::is_within_limits;
 pub use kinds::are_within_limits;
 pub use problems::keeps_limits;
-
-#[cfg(test)]
-mod tests;

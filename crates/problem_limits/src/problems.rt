@@ -12,10 +12,10 @@ use std::alloc::{AllocError, Global};
 /// The most constraints of a problem.
 const CONSTRAINT_LIMIT: usize = 100_000;
 
-/// Whether the problem is well formed and keeps the limits: kinds of which a layout can be made, integers from -1,000,000,000 to
-/// 1,000,000,000, at most 100,000 constraints, and each of them within the limits. Every problem of a text is so; this is the
-/// plain test for one that was made in another way. It looks at each part of the problem once, but for the sort of each
-/// constraint's variables. An `Err` is want of memory.
+/// Whether the problem is well formed and keeps the limits: kinds of which a layout can be made, integers from
+/// -1,000,000,000 to 1,000,000,000, at most 100,000 constraints, and each of them within the limits. Every problem of
+/// a text is so; this is the plain test for one that was made in another way. It looks at each part of the problem
+/// once, but for the sort of each constraint's variables. An `Err` is want of memory.
 pub fn keeps_limits(alloc: Global, p: &Problem) -> Result<bool, AllocError>
     ensures { IfOk result (λ keeps. IsTrue keeps ↔ KeepsLimits p.now) }
 {

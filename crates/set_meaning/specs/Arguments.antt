@@ -1,5 +1,5 @@
--- What the terms and arguments of a constraint stand for, under a list of values, one a variable. This project's own, after
--- the FlatZinc grammar of the MiniZinc Handbook.
+-- What the terms and arguments of a constraint stand for, under a list of values, one a variable. This project's own,
+-- after the FlatZinc grammar of the MiniZinc Handbook.
 use Rattle.std.specs.Prelude.{Bool, ℤ, List, [], ◌∷◌, Option, Some, None, slice_get, option_and_then}
 use Rattle.set_meaning.specs.declared.kinds.Value.{Value}
 use Rattle.set_meaning.specs.declared.kinds.Value.TheVariants as value

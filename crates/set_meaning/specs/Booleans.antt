@@ -1,4 +1,5 @@
--- What the relations of Booleans say, over plain truth values. This project's own profile, after the FlatZinc builtins of the MiniZinc Handbook.
+-- What the relations of Booleans say, over plain truth values. This project's own profile, after the FlatZinc
+-- builtins of the MiniZinc Handbook.
 use Rattle.std.specs.Prelude.{◌≡◌, ◌⊎◌, ℤ, pos, Bool, true, false, List, IsTrue, IsFalse, Any}
 
 -- some of the ps is true or some of the ns is false

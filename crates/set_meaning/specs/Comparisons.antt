@@ -1,5 +1,5 @@
--- Words of this crate's private helpers; the meaning is in Relations. This project's own: the four ways in which two values are
--- compared, for Booleans (false before true), integers, and sets in lexicographic order.
+-- Words of this crate's private helpers; the meaning is in Relations. This project's own: the four ways in which two
+-- values are compared, for Booleans (false before true), integers, and sets in lexicographic order.
 use Rattle.std.specs.Prelude.{◌≡◌, ◌≢◌, ◌⊎◌, ℤ, ◌≤ℤ◌, ◌<ℤ◌, Bool, true, false, List}
 use Rattle.set_meaning.specs.declared.meaning.comparison.Comparison.{Comparison}
 use Rattle.set_meaning.specs.declared.meaning.comparison.Comparison.TheVariants.{Equal, Different, Before, AtMost}

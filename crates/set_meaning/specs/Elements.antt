@@ -1,4 +1,5 @@
--- What the element relations say, over plain lists. This project's own profile, after the FlatZinc builtins of the MiniZinc Handbook.
+-- What the element relations say, over plain lists. This project's own profile, after the FlatZinc builtins of the
+-- MiniZinc Handbook.
 use Rattle.std.specs.Prelude.{◌≡◌, ℕ, suc, ℤ, pos, List, slice_get, Some}
 
 -- the place, counted from 1, is one of the list, and x stands there

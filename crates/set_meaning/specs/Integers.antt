@@ -1,4 +1,5 @@
--- What the relations of three integers and of sizes say. This project's own profile, after the FlatZinc builtins of the MiniZinc Handbook.
+-- What the relations of three integers and of sizes say. This project's own profile, after the FlatZinc builtins of
+-- the MiniZinc Handbook.
 use Rattle.std.specs.Prelude.{◌≡◌, ◌⊎◌, ℤ, pos, ◌≤ℤ◌, unsigned_abs}
 
 -- c is the less of a and b

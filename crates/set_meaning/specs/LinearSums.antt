@@ -1,4 +1,5 @@
--- What the linear relations say, over plain integers of any size. This project's own profile, after the FlatZinc builtins of the MiniZinc Handbook.
+-- What the linear relations say, over plain integers of any size. This project's own profile, after the FlatZinc
+-- builtins of the MiniZinc Handbook.
 use Rattle.std.specs.Prelude.{◌≡◌, ℤ, pos, ◌+ℤ◌, ◌*ℤ◌, List, ◌∷◌, length}
 
 -- the sum of the products of two lists, pair by pair; an empty sum is 0

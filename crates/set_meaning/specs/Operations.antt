@@ -1,5 +1,5 @@
--- Words of this crate's private helpers; the meaning is in Relations. This project's own: that one value is the result of an
--- operation on two others, for Booleans, integers and sets.
+-- Words of this crate's private helpers; the meaning is in Relations. This project's own: that one value is the
+-- result of an operation on two others, for Booleans, integers and sets.
 use Rattle.std.specs.Prelude.{◌≡◌, ◌≢◌, ◌↔◌, ℤ, ◌+ℤ◌, ◌*ℤ◌, Bool, ◌&&◌, ◌||◌, List, IsTrue}
 use Rattle.set_meaning.specs.declared.sets.SetOperation.{SetOperation}
 use Rattle.set_meaning.specs.declared.sets.SetOperation.TheVariants.{Union, Intersection, Difference, SymmetricDifference}

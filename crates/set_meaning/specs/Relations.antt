@@ -1,5 +1,6 @@
--- When a constraint holds: what each relation says of its arguments, one equation a relation, over plain sets, integers and
--- truth values. The table of relations is this project's own, a profile after the FlatZinc builtins of the MiniZinc Handbook.
+-- When a constraint holds: what each relation says of its arguments, one equation a relation, over plain sets,
+-- integers and truth values. The table of relations is this project's own, a profile after the FlatZinc builtins of
+-- the MiniZinc Handbook.
 use Rattle.std.specs.Prelude.{◌≡◌, ◌≢◌, ◌↔◌, ◌⊎◌, pos, ◌+ℤ◌, ◌*ℤ◌, ◌≤ℤ◌, ◌<ℤ◌, Bool, true, false, ◌&&◌, ◌||◌, List, [], ◌∷◌, ◌++◌, length, IsTrue, Option, Some, None, option_to_list, All, Any, Contains, flat_map, filter_map}
 use Rattle.std.specs.Ordering.{nat_cmp}
 use Rattle.std.specs.List.Sorted.{IsStrictlySortedBy}

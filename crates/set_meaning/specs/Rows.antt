@@ -1,5 +1,5 @@
--- The sorts of terms, and the arguments of each relation, a row for each. The table is this project's own, a profile after
--- the FlatZinc grammar and builtins of the MiniZinc Handbook.
+-- The sorts of terms, and the arguments of each relation, a row for each. The table is this project's own, a profile
+-- after the FlatZinc grammar and builtins of the MiniZinc Handbook.
 use Rattle.std.specs.Prelude.{◌≡◌, true, false, List, ◌∷◌, length, IsTrue, IfSome, Option, Some, None, slice_get, option_map, option_to_list, All, ⊤}
 use Rattle.std.specs.List.{AllZip}
 use Rattle.set_meaning.specs.declared.kinds.Value.{Value}

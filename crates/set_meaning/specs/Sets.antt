@@ -48,8 +48,8 @@ JustOneHas a b x = OnlyFirstHas a b x ⊎ OnlyFirstHas b a x
 unfoldable pub IsSymmetricDifference : List ℤ → List ℤ → List ℤ → Type 0
 IsSymmetricDifference a b c = (x : ℤ) → Has c x ↔ JustOneHas a b x
 
--- this project's own order of sets, lexicographic on their ascending lists: where they first differ a has the lesser element,
--- or a is a proper prefix of b
+-- this project's own order of sets, lexicographic on their ascending lists: where they first differ a has the lesser
+-- element, or a is a proper prefix of b
 unfoldable pub IsBefore : List ℤ → List ℤ → Type 0
 IsBefore [] [] = ⊥
 IsBefore [] (y ∷ ys) = ⊤

@@ -1,5 +1,5 @@
--- A word of the private helper that sums products; the meaning is in Relations. This project's own: an integer of any size is
--- a number of turns, each 2^127, and a rest.
+-- A word of the private helper that sums products; the meaning is in Relations. This project's own: an integer of any
+-- size is a number of turns, each 2^127, and a rest.
 use Rattle.std.specs.Prelude.{ℤ, pos, ◌+ℤ◌, ◌*ℤ◌, ◌^◌}
 
 -- the integer

@@ -109,32 +109,3 @@ fn push_copies(alloc: Global, all: &mut Vec<SetValue>, sets: &[SetValue]) -> Res
     }
     Ok(())
 }
-
-#[cfg(test)]
-mod tests {
-    use super::*;
-    use std::test::Fail;
-
-    /// The subsets of {1, 2}, those with 1 first, and the other two kinds.
-    #[test]
-    fn lists_each_value_once(rt: HostRuntime) -> Result<(), Fail> {
-        let alloc = rt.alloc();
-        let universe = Kind::Set(SetValue::from_range(alloc, 1, 2)?);
-        let sets = initial_values(alloc, &universe)?;
-        assert_eq!(rt;
-            format!(in alloc; "{sets:?}")?.as_str(),
-            "[Set(SetValue { elements: [1, 2] }), Set(SetValue { elements: [1] }), Set(SetValue { elements: [2] }), Set(SetValue { elements: [] })]"
-        );
-        let numbers = Kind::Int(SetValue::from_list(alloc, [7, -1].as_slice())?);
-        let integers = initial_values(alloc, &numbers)?;
-        assert_eq!(rt;
-            format!(in alloc; "{integers:?}")?.as_str(),
-            "[Int(-1), Int(7)]"
-        );
-        assert_eq!(rt;
-            format!(in alloc; "{:?}", initial_values(alloc, &Kind::Bool)?)?.as_str(),
-            "[Bool(false), Bool(true)]"
-        );
-        Ok(())
-    }
-}

@@ -10,8 +10,6 @@ mod linear_sums;
 mod relations;
 mod sets;
 mod terms;
-#[cfg(test)]
-mod tests;
 
 use crate::kinds::{Value, is_assignment};
 use crate::meaning::relations::relation_holds;
@@ -32,8 +30,8 @@ impl Arg {
     }
 }
 
-/// The variables that the constraint has, the one that names its truth value too, ascending, each once. An `Err` is want of
-/// memory.
+/// The variables that the constraint has, the one that names its truth value too, ascending, each once. An `Err` is
+/// want of memory.
 pub fn scope(alloc: Global, c: &Constraint) -> Result<Vec<VarId>, AllocError>
     ensures { IfOk result (λ vs. IsScope c.now vs.items) }
 {
@@ -45,8 +43,8 @@ pub fn scope(alloc: Global, c: &Constraint) -> Result<Vec<VarId>, AllocError>
 
 /// Whether the constraint holds under the values, one a variable. An `Err` is want of memory.
 ///
-/// The relations are this project's profile of the FlatZinc builtins (MiniZinc Handbook), and `Relation` says what each means.
-/// Sums and products are those of plain integers: none overflows, whatever the constants and values.
+/// The relations are this project's profile of the FlatZinc builtins (MiniZinc Handbook), and `Relation` says what
+/// each means. Sums and products are those of plain integers: none overflows, whatever the constants and values.
 ///
 /// Arguments that are not those of the relation, or a variable among them without a value of the right sort, make the
 /// relation false: the constraint then does not hold, and a reified one holds where its Boolean is false. A reified one
@@ -65,8 +63,8 @@ pub fn holds(alloc: Global, c: &Constraint, values: &[Value]) -> Result<bool, Al
     }
 }
 
-/// Whether the values are a solution: one value a variable, each in its variable's kind, and every constraint holds. An `Err`
-/// is want of memory.
+/// Whether the values are a solution: one value a variable, each in its variable's kind, and every constraint holds.
+/// An `Err` is want of memory.
 pub fn is_solution(alloc: Global, p: &Problem, values: &[Value]) -> Result<bool, AllocError>
     ensures { IfOk result (λ solves. IsTrue solves ↔ IsSolution p.now values.now) }
 {

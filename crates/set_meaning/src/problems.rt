@@ -31,17 +31,18 @@ pub enum Arg {
     Many(Listed<Term>),
 }
 
-/// What a constraint says of its arguments, one variant a name of the language. In the names below `a`, `b` and `c` are of the
-/// sort that the name begins with, `x`, `n` and the `b` before an array are integers, `ps`, `ns` and `as` are arrays of terms,
-/// `cs` is an array of integer constants, `xs` an array of as many integers, and `k` an integer constant. A relation that is
-/// marked as reifiable may have one more Boolean, which is then its truth value.
+/// What a constraint says of its arguments, one variant a name of the language. In the names below `a`, `b` and `c`
+/// are of the sort that the name begins with, `x`, `n` and the `b` before an array are integers, `ps`, `ns` and `as`
+/// are arrays of terms, `cs` is an array of integer constants, `xs` an array of as many integers, and `k` an integer
+/// constant. A relation that is marked as reifiable may have one more Boolean, which is then its truth value.
 #[derive(Clone, Copy, Debug, PartialEq, Eq)]
 pub enum Relation {
     /// `set_eq(a, b)`: a is b. Reifiable.
     SetEq,
     /// `set_ne(a, b)`: a is not b. Reifiable.
     SetNe,
-    /// `set_lt(a, b)`: the ascending list of a is lexicographically before that of b, a proper prefix being before. Reifiable.
+    /// `set_lt(a, b)`: the ascending list of a is lexicographically before that of b, a proper prefix being before.
+    /// Reifiable.
     SetLt,
     /// `set_le(a, b)`: a is before b, or is b. Reifiable.
     SetLe,

@@ -40,7 +40,8 @@ pub struct Row {
     pub paired: bool,
 }
 
-/// The arguments that the relation has, by the table of this project's profile of the FlatZinc builtins (MiniZinc Handbook).
+/// The arguments that the relation has, by the table of this project's profile of the FlatZinc builtins (MiniZinc
+/// Handbook).
 pub fn row_of(relation: Relation) -> Row
     ensures { result ≡ row_of relation }
 {
@@ -129,8 +130,8 @@ fn linear() -> Row
     }
 }
 
-/// Whether the constraint has the arguments of its relation, over variables of these kinds, and names a truth value only
-/// where the relation is reifiable. It looks at each term once.
+/// Whether the constraint has the arguments of its relation, over variables of these kinds, and names a truth value
+/// only where the relation is reifiable. It looks at each term once.
 pub fn fits_row(kinds: &[Kind], c: &Constraint) -> bool
     ensures { IsTrue result ↔ FitsRow kinds.now c.now }
 {
@@ -272,94 +273,5 @@ fn is_of_sort(sort: Sort, value: &Value) -> bool
             let _ = set.elements();
             matches!(sort, Sort::IntegerSet)
         }
-    }
-}
-
-#[cfg(test)]
-mod tests {
-    use super::*;
-    use crate::problems::VarId;
-    use crate::sets::SetValue;
-    use listed::Listed;
-    use std::alloc::{AllocError, Global};
-    use std::test::Fail;
-
-    /// Whether the relation fits these variables, of which 0 is a Boolean, 1 an integer, 2 a set, and no other is there.
-    fn fits(
-        alloc: Global,
-        relation: Relation,
-        variables: &[u32],
-        reif: Option<u32>,
-    ) -> Result<bool, AllocError> {
-        let mut args = Vec::new(alloc);
-        for number in variables {
-            args.push(Arg::One(Term::Var(VarId(*number))))?;
-        }
-        fits_over(
-            alloc,
-            relation,
-            args,
-            reif.map(|number| Term::Var(VarId(number))),
-        )
-    }
-
-    fn fits_over(
-        alloc: Global,
-        relation: Relation,
-        args: Vec<Arg>,
-        reif: Option<Term>,
-    ) -> Result<bool, AllocError> {
-        let numbers = SetValue::from_range(alloc, 0, 9)?;
-        let universe = numbers.copy(alloc)?;
-        let kinds = vec![in alloc; Kind::Bool, Kind::Int(numbers), Kind::Set(universe)]?;
-        let c = Constraint {
-            relation,
-            args: Listed::of(args),
-            reif,
-        };
-        Ok(fits_row(kinds.as_slice(), &c))
-    }
-
-    fn array(alloc: Global, item: &Value, length: u8) -> Result<Arg, AllocError> {
-        let mut terms = Vec::new(alloc);
-        for _ in 0..length {
-            terms.push(Term::Const(item.copy(alloc)?))?;
-        }
-        Ok(Arg::Many(Listed::of(terms)))
-    }
-
-    /// Whether `int_lin_le` fits as many coefficients and integers, and this bound.
-    fn fits_linear(alloc: Global, cs: u8, xs: u8, bound: Term) -> Result<bool, AllocError> {
-        let one = Value::Int(1);
-        let args = vec![in alloc;
-            array(alloc, &one, cs)?,
-            array(alloc, &one, xs)?,
-            Arg::One(bound),
-        ]?;
-        fits_over(alloc, Relation::IntLinLe, args, None)
-    }
-
-    #[test]
-    fn fits_the_arguments_of_the_relation(rt: HostRuntime) -> Result<(), Fail> {
-        let alloc = rt.alloc();
-        let cases = [
-            (Relation::SetIn, [1, 2].as_slice(), None, true),
-            (Relation::SetIn, [2, 1].as_slice(), None, false),
-            (Relation::SetIn, [1, 2].as_slice(), Some(0), true),
-            (Relation::SetIn, [1, 2].as_slice(), Some(1), false),
-            (Relation::SetUnion, [2, 2, 2].as_slice(), None, true),
-            (Relation::SetUnion, [2, 2, 2].as_slice(), Some(0), false),
-            (Relation::SetUnion, [2, 2].as_slice(), None, false),
-            (Relation::IntAbs, [1, 1, 1].as_slice(), None, false),
-            (Relation::IntEq, [1, 3].as_slice(), None, false),
-            (Relation::BoolClause, [0, 0].as_slice(), None, false),
-        ];
-        for (relation, variables, reif, expected) in cases {
-            assert_eq!(rt; fits(alloc, relation, variables, reif)?, expected);
-        }
-        assert!(rt; fits_linear(alloc, 2, 2, Term::Const(Value::Int(5)))?);
-        assert!(rt; !fits_linear(alloc, 2, 1, Term::Const(Value::Int(5)))?);
-        assert!(rt; !fits_linear(alloc, 2, 2, Term::Var(VarId(1)))?);
-        Ok(())
     }
 }

@@ -93,7 +93,8 @@ impl SetValue {
         self.elements() == other.elements()
     }
 
-    /// Whether this comes before `other` in the lexicographic order of their ascending lists. A proper prefix comes before.
+    /// Whether this comes before `other` in the lexicographic order of their ascending lists. A proper prefix comes
+    /// before.
     pub(crate) fn is_before(&self, other: &SetValue) -> bool
         ensures { IsTrue result ↔ IsBefore self.now other.now }
     {
@@ -181,23 +182,4 @@ fn count_between(lo: i64, hi: i64) -> u32
     ensures { result ≡ count_between lo hi }
 {
     if hi < lo { 0 } else { (hi - lo + 1) as u32 }
-}
-
-#[cfg(test)]
-mod tests {
-    use super::*;
-    use std::test::Fail;
-
-    #[test]
-    fn makes_sets(rt: HostRuntime) -> Result<(), Fail> {
-        let listed = SetValue::from_list(rt.alloc(), [3, -2, 3, 1].as_slice())?;
-        assert_eq!(rt; listed.elements(), [-2, 1, 3].as_slice());
-        let copied = listed.copy(rt.alloc())?;
-        assert_eq!(rt; copied.elements(), [-2, 1, 3].as_slice());
-        let range = SetValue::from_range(rt.alloc(), -1, 2)?;
-        assert_eq!(rt; range.elements(), [-1, 0, 1, 2].as_slice());
-        let empty = SetValue::from_range(rt.alloc(), 1, 0)?;
-        assert!(rt; empty.elements().is_empty());
-        Ok(())
-    }
 }

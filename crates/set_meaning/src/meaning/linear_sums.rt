@@ -16,8 +16,8 @@ use std::alloc::{AllocError, Global};
 /// How far a rest goes to either side.
 const HALF_TURN: i128 = 1 << 126;
 
-/// An integer of any size: `turns` times 2^127, and a rest within 2^126. A sum of products of two 64-bit integers each can
-/// leave 128 bits, and is kept so.
+/// An integer of any size: `turns` times 2^127, and a rest within 2^126. A sum of products of two 64-bit integers
+/// each can leave 128 bits, and is kept so.
 #[derive(Clone, Copy)]
 struct Sum {
     turns: i128,
@@ -77,7 +77,8 @@ impl Sum {
     }
 }
 
-/// Whether the arguments are constants, as many integers and a constant, and the sum of the products compares so with it.
+/// Whether the arguments are constants, as many integers and a constant, and the sum of the products compares so with
+/// it.
 pub(super) fn compared(
     alloc: Global,
     comparison: Comparison,

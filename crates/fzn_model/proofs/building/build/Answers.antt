@@ -1,4 +1,5 @@
--- The draft of all items is the problem of the tree, and the first fault of the first faulty item is the first of the tree.
+-- The draft of all items is the problem of the tree, and the first fault of the first faulty item is the first of the
+-- tree.
 use Rattle.std.proofs.Common.{◌≡◌, ◌⊎◌, subst, inl, inr}
 use Rattle.fzn_model.proofs.building.build.Goals as goal
 use Rattle.fzn_model.specs.Builds.{IsBuilt, IsFirstFaulty}

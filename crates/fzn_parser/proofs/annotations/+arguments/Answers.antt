@@ -1,4 +1,5 @@
--- Each turn of the loop reads a comma and an argument, or the closing bracket, or stops; a bracket is too deep where none may be opened.
+-- Each turn of the loop reads a comma and an argument, or the closing bracket, or stops; a bracket is too deep where
+-- none may be opened.
 use Rattle.std.proofs.Common.{◌≡◌, length, sym, subst, ◌∙◌, ap, Ok, true, false, List, Bool}
 use Rattle.std.proofs.lemmas.Result.{err_from_is_err_and}
 use Rattle.fzn_parser.specs.declared.tree.AnnArg.{AnnArg}
