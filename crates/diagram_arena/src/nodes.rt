@@ -1,5 +1,5 @@
 //! Nodes, and the names by which they are reached.
-ghost use Rattle.std.specs.Prelude.{◌≡◌, false, IfSome};
+ghost use Rattle.std.specs.Prelude.{◌≡◌, ◌≤◌, ◌^◌, false, IfSome, IfNone};
 
 use std::alloc::AllocError;
 use std::convert::From;
@@ -12,7 +12,8 @@ pub struct NodeId(pub(crate) u32);
 impl NodeId {
     /// The id of the node under this key of the slab, where the key fits into an id.
     pub(crate) fn of_key(key: usize) -> Option<NodeId>
-        ensures { IfSome result (λ i. i.0 ≡ key) }
+        ensures id { IfSome result (λ i. i.0 ≡ key) }
+        ensures none { IfNone result (2 ^ 32 ≤ key) }
     {
         match u32::try_from(key) {
             Ok(key) => Some(NodeId(key)),
