@@ -3,7 +3,7 @@ use Rattle.std.proofs.Common.{◌≡◌, ◌≢◌, ◌⊎◌, ℕ, ◌+◌, ◌
 use Rattle.std.specs.Prelude.{IsSome, get_or}
 use Rattle.std.specs.Option.{option_map, option_map_or, unwrap_or}
 use Rattle.std.specs.Ordering.{is_eq}
-use Rattle.std.specs.Map.{lookup, keys_of}
+use Rattle.std.specs.Map.{keys_of}
 use Rattle.std.specs.List.Sorted.{IsStrictlySortedBy}
 use Rattle.std.specs.Cmp.{eq_by_cmp_equiv}
 use Rattle.std.specs.FinMap as map
@@ -20,13 +20,12 @@ use Rattle.diagram_arena.specs.Table.{Table, id_cmp, child, bit_end, depth, IsLi
 use Rattle.diagram_arena.specs.Reach.{step, follow}
 use Rattle.diagram_arena.specs.Arena.{ArenaState, table, triple_of, has_mark, IsMarked, MarksReachDown, unmarked, if_marked, Stands, ChangesNode, Grows}
 use Rattle.diagram_arena.proofs.Ids.{cases_id, same_id, id_cmp_total, tied_same, tied_other}
-use Rattle.diagram_arena.proofs.Meaning.{live_triple}
-use Rattle.node_reclaim.specs.Pool.{PoolState, pins_of, times}
+use Rattle.node_reclaim.specs.Pool.{PoolState, times}
 use Rattle.node_reclaim.specs.Body.{IsPool}
 use Rattle.node_reclaim.specs.Holders.{AreHeld, MeansTheSame}
-use Rattle.node_reclaim.specs.Reclaim.{Reaches, IsReached, IsKept, Reclaims}
+use Rattle.node_reclaim.specs.Reclaim.{Reaches, Reclaims}
 use Rattle.node_reclaim.specs.Marking.{count_of, ChangesMarks, MarksReached, MarksCounted}
-use Rattle.node_reclaim.proofs.Counts.{Frame, derived, at, get-entries, state, pins-state}
+use Rattle.node_reclaim.proofs.Counts.{Frame, derived, at, get-entries, state}
 
 -- paths
 follow-zero : (t : Table) (path : List Bool) → follow t Zero path ≡ Zero

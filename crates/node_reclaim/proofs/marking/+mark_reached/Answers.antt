@@ -1,10 +1,7 @@
-use Rattle.std.proofs.Common.{◌≡◌, ◌<◌, true, false, Bool, refl, subst, sym, ap, ◌∙◌, arith}
-use Rattle.diagram_arena.specs.declared.nodes.NodeId.{NodeId}
-use Rattle.diagram_arena.specs.declared.nodes.Ref.{Ref}
+use Rattle.std.proofs.Common.{true, false, refl, subst, sym, ◌∙◌, arith}
 use Rattle.diagram_arena.specs.declared.nodes.Ref.TheVariants.{Node}
-use Rattle.diagram_arena.specs.declared.nodes.Triple.{Triple}
-use Rattle.diagram_arena.specs.Table.{Table, child, bit_end, depth, IsLive}
-use Rattle.diagram_arena.specs.Arena.{table, triple_of, Stands}
+use Rattle.diagram_arena.specs.Table.{Table, IsLive}
+use Rattle.diagram_arena.specs.Arena.{table, triple_of}
 use Rattle.diagram_arena.proofs.Meaning.{live_from}
 use Rattle.node_reclaim.proofs.Reached.{marks_node, sets_mark, live_stored, falls}
 use Rattle.node_reclaim.proofs.marking.+mark_reached.Goals as goal

@@ -1,4 +1,4 @@
-use Rattle.std.proofs.Common.{◌≡◌, ◌<◌, sym, subst, arith}
+use Rattle.std.proofs.Common.{◌<◌, sym, subst, arith}
 use Rattle.std.specs.Map.{keys_of}
 use Rattle.std.specs.List.Sorted.{IsStrictlySortedBy}
 use Rattle.diagram_arena.specs.Table.{id_cmp}

@@ -64,7 +64,7 @@ more_of : (s t u : Slab Node) → t ≡ record s { capacity = t.capacity } → s
 more_of s t u same more = more ∙ ap (λ (x : Slab Node). slab_len x + 1) same
 
 at : (c : goal.After-insert_reserved) → c.in-Some.id.0 ≡ c.insert_reserved.result
-at c = c.in-Some.ensures ∙ c.vacant_key.ensures.value ∙ sym c.insert_reserved.ensures.key
+at c = c.in-Some.ensures.id ∙ c.vacant_key.ensures.value ∙ sym c.insert_reserved.ensures.key
 
 free : (c : goal.After-insert_reserved) → slot c.self.inside.nodes.slots c.in-Some.id.0 ≡ None
 free c = free_of c.self.inside.nodes c.reserve.new.self c.insert_reserved.result c.in-Some.id.0 c.reserve.ensures.rest_kept (at c) c.insert_reserved.ensures.was_vacant
