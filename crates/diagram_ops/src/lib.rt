@@ -2,6 +2,7 @@
 #![tactic(auto)]
 
 mod operations;
+mod products;
 mod projection;
 mod question;
 mod settled;

