@@ -1,12 +1,31 @@
 //! Nodes, and the names by which they are reached.
-ghost use Rattle.std.specs.Prelude.{◌≡◌, false};
+ghost use Rattle.std.specs.Prelude.{◌≡◌, false, IfSome};
 
 use std::alloc::AllocError;
 use std::convert::From;
 
 /// The name of a node of one arena. It says nothing of when the node was made.
 #[derive(Clone, Copy, PartialEq, Eq, PartialOrd, Ord, Hash, Debug)]
-pub struct NodeId(pub(crate) usize);
+pub struct NodeId(pub(crate) u32);
+
+impl NodeId {
+    /// The id of the node under this key of the slab, where the key fits into an id.
+    pub(crate) fn of_key(key: usize) -> Option<NodeId>
+        ensures { IfSome result (λ i. i.0 ≡ key) }
+    {
+        match u32::try_from(key) {
+            Ok(key) => Some(NodeId(key)),
+            Err(_) => None,
+        }
+    }
+
+    /// The key of the node in the slab.
+    pub(crate) fn key(self) -> usize
+        ensures { result ≡ self.0 }
+    {
+        self.0 as usize
+    }
+}
 
 /// A set of words: the empty one, that of all words, or that of a node.
 #[derive(Clone, Copy, PartialEq, Eq, PartialOrd, Ord, Hash, Debug)]
