@@ -1,9 +1,10 @@
-use super::{Arena, Ref, Stop};
+//! Arenas: their limit, and the nodes that marks keep.
+use diagram_arena::{Arena, Ref, Stop};
 use std::test::Fail;
 
 /// An arena of one node: a second, different node does not fit, and the first stands.
 #[test]
-#[tactic(auto, using(crate::proofs::Meaning::terminals))]
+#[tactic(auto, using(diagram_arena::proofs::Meaning::terminals))]
 fn makes_one_node(rt: HostRuntime) -> Result<(), Fail> {
     let mut arena = Arena::new(rt.alloc(), 1);
     let first = arena.make(u32::MAX, Ref::Zero, Ref::One)?;

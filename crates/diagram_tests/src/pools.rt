@@ -1,5 +1,6 @@
-use super::Pool;
+//! Pools: the list of pins.
 use diagram_arena::Ref;
+use node_reclaim::Pool;
 use std::test::Fail;
 
 /// One node with three pins, of which one is spent and one left; a pin of One is counted nowhere.
