@@ -3,7 +3,7 @@ use Rattle.std.proofs.Common.{◌≡◌, ℕ, ◌+◌, ◌-◌, ◌<◌, ◌≤�
 use Rattle.std.specs.Prelude.{◌↔◌, MatchBool}
 use Rattle.diagram_arena.specs.declared.nodes.Ref.{Ref}
 use Rattle.diagram_arena.specs.declared.nodes.Ref.TheVariants.{Zero}
-use Rattle.diagram_arena.specs.Table.{Word, Words, Table, bit_end, has, IsLive, IsReduced}
+use Rattle.diagram_arena.specs.Table.{Word, Words, Table, bit_end, IsReduced}
 use Rattle.diagram_arena.specs.Part.{with_front}
 use Rattle.diagram_arena.proofs.Meaning.{has-zero}
 use Rattle.diagram_ops.specs.declared.product.Product.{Product}

@@ -1,6 +1,5 @@
 -- A step of a projection: both sides of a product, in a pool and among pairs that grow from call to call.
-use Rattle.std.proofs.Common.{◌≡◌, ℕ, ◌+◌, ◌-◌, ◌<◌, ◌≤◌, Bool, true, false, List, refl, sym, ◌∙◌, ap, subst, arith}
-use Rattle.diagram_arena.specs.declared.nodes.Ref.{Ref}
+use Rattle.std.proofs.Common.{◌≡◌, ℕ, ◌-◌, ◌<◌, ◌≤◌, true, false, List, ◌∙◌, subst, arith}
 use Rattle.diagram_arena.specs.Table.{Word, Words, Table, bit_end, has, IsLive, IsReduced}
 use Rattle.diagram_arena.specs.Arena.{Grows}
 use Rattle.diagram_ops.specs.declared.product.Product.{Product}

@@ -1,5 +1,5 @@
 -- What products mean: one set each, the same in a table that grows and with more pairs.
-use Rattle.std.proofs.Common.{◌≡◌, ℕ, ◌+◌, ◌<◌, ◌≤◌, min, Bool, true, false, ◌&&◌, cond, List, [], ◌∷◌, ◌++◌, length, get_or, Option, Some, None, refl, sym, ◌∙◌, ap, subst, arith}
+use Rattle.std.proofs.Common.{◌≡◌, ℕ, ◌+◌, ◌<◌, ◌≤◌, min, Bool, true, false, ◌&&◌, cond, List, [], ◌∷◌, ◌++◌, length, Some, refl, sym, ◌∙◌, ap, subst, arith}
 use Rattle.std.specs.Prelude.{slice_get}
 use Rattle.std.specs.Option.{option_map_or}
 use Rattle.std.proofs.Math.ListN.{get_or-append}
@@ -8,7 +8,7 @@ use Rattle.std.proofs.lemmas.List.{length-append}
 use Rattle.std.proofs.lemmas.Option.{slice_get_within, slice_get-get_or, get_or_from_slice_get}
 use mathlib.Core.Path.{fun_ext}
 use Rattle.diagram_arena.specs.declared.nodes.Ref.{Ref}
-use Rattle.diagram_arena.specs.Table.{Word, Words, Table, bit_end, has, IsLive, depth, IsReduced}
+use Rattle.diagram_arena.specs.Table.{Word, Words, Table, bit_end, has, IsLive, IsReduced}
 use Rattle.diagram_arena.specs.Arena.{Grows}
 use Rattle.diagram_arena.proofs.Meaning.{depth_within}
 use Rattle.diagram_arena.proofs.Canonical.{has-agree}

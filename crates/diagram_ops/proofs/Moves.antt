@@ -1,23 +1,21 @@
 -- The sides of a product, and two products taken together.
-use Rattle.std.proofs.Common.{◌≡◌, ℕ, ◌+◌, ◌<◌, ◌≤◌, min, Bool, true, false, ◌&&◌, cond, List, [], ◌∷◌, ◌++◌, length, take, drop, All, Some, None, refl, sym, ◌∙◌, ap, subst, arith}
+use Rattle.std.proofs.Common.{◌≡◌, ℕ, ◌<◌, ◌≤◌, min, Bool, true, false, ◌&&◌, List, [], ◌∷◌, ◌++◌, length, All, Some, None, refl, sym, ◌∙◌, ap, subst, arith}
 use Rattle.std.specs.Prelude.{slice_get}
-use Rattle.std.specs.List.{list_all}
 use Rattle.std.proofs.lemmas.List.Folds.{list_all-append}
 use Rattle.std.proofs.lemmas.List.Elements.{All-from_recursion, recursion_from_All}
 use Rattle.std.specs.List.{AllByRecursion as ByRecursion}
 use mathlib.Core.Path.{fun_ext}
 use Rattle.diagram_arena.specs.declared.nodes.Ref.{Ref}
 use Rattle.diagram_arena.specs.declared.nodes.Ref.TheVariants.{Zero, One}
-use Rattle.diagram_arena.specs.Table.{Word, Words, Table, child, bit_end, has, IsLive, depth, IsReduced}
-use Rattle.diagram_arena.specs.Arena.{triple}
+use Rattle.diagram_arena.specs.Table.{Words, Table, has, IsLive, depth, IsReduced}
 use Rattle.diagram_arena.proofs.Meaning.{has-zero, has-one, depth-zero, depth-one, depth_within}
 use Rattle.diagram_ops.specs.declared.product.Product.{Product}
 use Rattle.diagram_ops.specs.declared.product.Product.TheVariants.{Single, Both}
 use Rattle.diagram_ops.specs.declared.product.Pair.{Pair}
 use Rattle.diagram_ops.specs.Words.{both}
 use Rattle.diagram_ops.specs.Steps.{IsSplit}
-use Rattle.diagram_ops.specs.Meanings.{rank, first_of, IsEarlier, IsPair, Means, of_ref, of_pair, IsThere, Extends, IsAt, front_of, side_of, AreSidesOf, IsJoinOf, all_of, IsAllOf, IsProductOf}
-use Rattle.diagram_ops.proofs.Meant.{Parts, of_single, of_both, first_more, means_more, means_free, first_is, extends_then, within_all}
+use Rattle.diagram_ops.specs.Meanings.{first_of, IsEarlier, IsPair, Means, of_ref, of_pair, IsThere, Extends, IsAt, front_of, side_of, AreSidesOf, IsJoinOf, all_of, IsAllOf, IsProductOf}
+use Rattle.diagram_ops.proofs.Meant.{of_single, of_both, first_more, means_more, means_free, first_is, extends_then}
 
 -- the sides of one ref
 pub single_sides : (t : Table) (pairs : List Pair) (r : Ref) (bit : ℕ) (lo hi : Ref) → IsSplit t r bit lo hi → AreSidesOf t pairs pairs (Single r) bit (Single lo) (Single hi)

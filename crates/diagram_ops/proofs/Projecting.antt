@@ -1,5 +1,5 @@
 -- The ways in which a projection ends: what has been made so far, and why it stopped.
-use Rattle.std.proofs.Common.{◌≡◌, ℕ, ◌∷◌, All, ◌+◌, ◌-◌, ◌<◌, ◌≤◌, Bool, true, false, ◌&&◌, cond, List, [], Option, Some, None, Result, Ok, Err, refl, sym, ◌∙◌, ap, subst, inl, inr, arith}
+use Rattle.std.proofs.Common.{◌≡◌, ℕ, ◌∷◌, All, ◌+◌, ◌-◌, ◌<◌, ◌≤◌, Bool, true, false, ◌&&◌, cond, List, [], Option, Some, Result, Ok, Err, refl, sym, ◌∙◌, ap, subst, inl, inr, arith}
 use Rattle.std.specs.Prelude.{IsErr, IfOk, IfSome, MatchBool}
 use Rattle.std.specs.List.{list_all, AllByRecursion as ByRecursion}
 use Rattle.std.proofs.lemmas.List.Elements.{recursion_from_All}
@@ -11,23 +11,22 @@ use Rattle.diagram_arena.specs.declared.nodes.Ref.{Ref}
 use Rattle.diagram_arena.specs.declared.nodes.Ref.TheVariants.{Zero, One, Node}
 use Rattle.diagram_arena.specs.declared.nodes.Stop.{Stop}
 use Rattle.diagram_arena.specs.declared.nodes.Stop.TheVariants.{Full}
-use Rattle.diagram_arena.specs.Table.{Word, Words, Table, child, bit_end, has, IsLive, depth, IsReduced}
+use Rattle.diagram_arena.specs.Table.{Word, Words, Table, child, has, IsLive, depth, IsReduced}
 use Rattle.diagram_arena.specs.Part.{with_bit, with_front, IsPartOf}
 use Rattle.diagram_arena.specs.Reach.{Bits, ReachesOnly, DependsOn, among}
-use Rattle.diagram_arena.specs.Arena.{table, triple, CanMake, Grows}
+use Rattle.diagram_arena.specs.Arena.{table, triple, CanMake}
 use Rattle.diagram_arena.proofs.Meaning.{has-zero, has-one, depth-zero, depth-one}
 use Rattle.diagram_arena.proofs.Parts.{part_self}
 use Rattle.diagram_arena.proofs.Reach.{depends_only, reaches_only, part_depends}
 use Rattle.node_reclaim.specs.Pool.{PoolState}
-use Rattle.node_reclaim.specs.Growth.{Stays, NewReachOnly}
+use Rattle.node_reclaim.specs.Growth.{NewReachOnly}
 use Rattle.diagram_ops.specs.declared.product.Product.{Product}
 use Rattle.diagram_ops.specs.declared.product.Product.TheVariants.{Single}
 use Rattle.diagram_ops.specs.declared.product.Pair.{Pair}
-use Rattle.diagram_ops.specs.Words.{common, Agree, Lies, HasNone, HasSome, IsProjection, IsPartOfProjection, NewArePartsOfProjections, product_of, IsAsDeepAsAll}
+use Rattle.diagram_ops.specs.Words.{common, Agree, Lies, HasNone, HasSome, IsProjection, IsPartOfProjection, product_of, IsAsDeepAsAll}
 use Rattle.diagram_ops.specs.Steps.{sides_joined, SidesJoined}
-use Rattle.diagram_ops.specs.Meanings.{first_of, Means, IsThere, IsConstant, Extends, front_of, side_of, AreSidesOf, IsProjectionOf, ProjectsWords}
+use Rattle.diagram_ops.specs.Meanings.{first_of, Means, IsThere, IsConstant, Extends, front_of, AreSidesOf, IsProjectionOf, ProjectsWords}
 use Rattle.diagram_ops.specs.Work.{AreBounds, IsStepOf}
-use Rattle.diagram_ops.proofs.Steps.{stays_self, stays_then}
 use Rattle.diagram_ops.proofs.Exits.{Sofar, sofar_self, sofar_then}
 use Rattle.diagram_ops.proofs.Results.{if_ok}
 use Rattle.diagram_ops.proofs.Projections.{AreSides, sides_projection, same_projection, projected_part, projection_depends, bit-here, free_agree, full_projection, front-below, front-above}

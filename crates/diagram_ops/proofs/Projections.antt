@@ -1,17 +1,10 @@
 -- Projection, over plain sets of words and over refs of one table.
-use Rattle.std.proofs.Common.{◌≡◌, ◌≢◌, ℕ, ◌<◌, ◌≤◌, Bool, true, false, ◌&&◌, ◌||◌, cond, eqb, List, Some, refl, sym, ◌∙◌, ap, subst, inl, inr, ◌⊎◌, arith}
+use Rattle.std.proofs.Common.{◌≡◌, ◌≢◌, ℕ, ◌<◌, ◌≤◌, Bool, true, false, ◌&&◌, ◌||◌, cond, eqb, refl, sym, ◌∙◌, ap, inl, inr, ◌⊎◌, arith}
 use Rattle.std.proofs.lemmas.Bool.{cases_Bool, cases_eq, ne_eqb}
 use Rattle.std.proofs.lemmas.Bool.Decides.{nat_tests}
-use Rattle.diagram_arena.specs.declared.nodes.NodeId.{NodeId}
-use Rattle.diagram_arena.specs.declared.nodes.Ref.{Ref}
-use Rattle.diagram_arena.specs.declared.nodes.Ref.TheVariants.{Zero, One, Node}
-use Rattle.diagram_arena.specs.declared.nodes.Triple.{Triple}
-use Rattle.diagram_arena.specs.Table.{Word, Words, Table, child, has, IsLive, depth, IsReduced}
+use Rattle.diagram_arena.specs.Table.{Word, Words}
 use Rattle.diagram_arena.specs.Part.{with_bit, with_front, IsPartOf}
-use Rattle.diagram_arena.specs.Reach.{Bits, DependsOn, among}
-use Rattle.diagram_arena.specs.Arena.{triple, Grows}
-use Rattle.diagram_arena.proofs.Meaning.{has-zero, has-one, depth-one, depth-at, depth_within}
-use Rattle.diagram_arena.proofs.Canonical.{has-agree, has-above}
+use Rattle.diagram_arena.specs.Reach.{Bits, DependsOn}
 use Rattle.diagram_arena.proofs.Parts.{part_of_part}
 use Rattle.diagram_ops.specs.Words.{joined, either, common, Agree, IsProjection, IsPartOfProjection}
 use Rattle.diagram_ops.specs.Steps.{sides_joined}

@@ -1,10 +1,10 @@
 -- Equal keys are one, and what tables say of products once a key more stands in them.
-use Rattle.std.proofs.Common.{◌≡◌, ℕ, ◌<◌, ◌≤◌, Bool, true, false, eqb, cond, ◌&&◌, List, [], Option, Some, None, Result, Ok, Err, refl, sym, ◌∙◌, ap, subst, inl, inr, arith}
+use Rattle.std.proofs.Common.{◌≡◌, ℕ, Bool, true, eqb, cond, ◌&&◌, List, [], Some, None, Result, Ok, Err, refl, sym, ◌∙◌, ap, subst, inl, inr, arith}
 use Rattle.std.specs.Prelude.{OnOk, OnErr}
 use Rattle.std.specs.Map.{lookup}
 use Rattle.std.proofs.lemmas.Bool.{cases_Bool, eqb-true, and_parts}
 use Rattle.diagram_arena.specs.declared.nodes.Ref.{Ref}
-use Rattle.diagram_arena.specs.Table.{Words, Table, has, IsLive, depth}
+use Rattle.diagram_arena.specs.Table.{Words, Table}
 use Rattle.diagram_arena.specs.Arena.{Grows}
 use Rattle.diagram_ops.specs.declared.product.Product.{Product}
 use Rattle.diagram_ops.specs.declared.product.Product.TheVariants.{Single, Both}
@@ -14,7 +14,7 @@ use Rattle.diagram_ops.specs.contracts.product.PairPartialEq.TheImpl.{eq-value a
 use Rattle.diagram_ops.specs.declared.question.Question.{Question}
 use Rattle.diagram_ops.specs.Words.{HasNone}
 use Rattle.diagram_ops.specs.Steps.{AreAnswers}
-use Rattle.diagram_ops.specs.Meanings.{first_of, Means, IsThere, Extends, IsAt, IsIndex, AreEmpty, IsProjectionOf, AreProjections, IsKnown}
+use Rattle.diagram_ops.specs.Meanings.{Means, Extends, IsAt, IsIndex, AreEmpty, IsProjectionOf, AreProjections, IsKnown}
 use Rattle.diagram_arena.specs.Reach.{among}
 use Rattle.diagram_ops.proofs.Memos.{ref_true}
 use Rattle.diagram_ops.proofs.Projections.{same_projection}

@@ -7,7 +7,7 @@ use Rattle.diagram_arena.specs.declared.nodes.Ref.{Ref}
 use Rattle.diagram_arena.specs.declared.nodes.Ref.TheVariants.{Zero, One, Node}
 use Rattle.diagram_arena.specs.declared.nodes.Triple.{Triple}
 use Rattle.diagram_arena.specs.Table.{Word, Table, child, bit_end, has, IsLive, depth, IsReduced}
-use Rattle.diagram_arena.specs.Part.{with_bit, with_front, IsPartOf}
+use Rattle.diagram_arena.specs.Part.{with_bit, with_front}
 use Rattle.diagram_arena.specs.Arena.{triple}
 use Rattle.diagram_arena.proofs.Meaning.{bit_end_is, has-zero, has-one, depth-zero, depth-one, depth-at, has-at}
 use Rattle.diagram_arena.proofs.Canonical.{has-agree}

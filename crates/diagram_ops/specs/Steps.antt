@@ -5,7 +5,6 @@ use Rattle.diagram_arena.specs.declared.nodes.Ref.{Ref}
 use Rattle.diagram_arena.specs.declared.nodes.Ref.TheVariants as ref
 use Rattle.diagram_arena.specs.declared.nodes.Stop.{Stop}
 use Rattle.diagram_arena.specs.declared.nodes.Stop.TheVariants.{Full}
-use Rattle.diagram_arena.specs.contracts.nodes.RefPartialEq.TheImpl.{eq-value as ref_eq}
 use Rattle.diagram_arena.specs.Table.{Word, Words, Table, child, has, IsLive, depth, IsReduced}
 use Rattle.diagram_arena.specs.Part.{with_front}
 use Rattle.diagram_arena.specs.Reach.{Bits, among}
@@ -17,7 +16,7 @@ use Rattle.diagram_ops.specs.declared.question.Question.{Question}
 use Rattle.diagram_ops.specs.declared.question.Question.TheVariants.{Combine, Restrict}
 use Rattle.diagram_ops.specs.contracts.question.QuestionPartialEq.TheImpl.{eq-value as same_question}
 use Rattle.node_reclaim.specs.Growth.{IsFull, Stays, NewArePartsOf}
-use Rattle.diagram_ops.specs.Words.{joined, either, restricted, IsProjection, Denotes, NewArePartsOfProjections}
+use Rattle.diagram_ops.specs.Words.{joined, either, restricted, Denotes}
 
 -- an operation at one word
 abbrev pub combine : Op → Bool → Bool → Bool

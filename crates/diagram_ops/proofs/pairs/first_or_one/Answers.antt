@@ -1,4 +1,3 @@
-use Rattle.std.proofs.Common.{◌∙◌, ap, subst}
 use Rattle.diagram_ops.proofs.Moves.{all_first, all_empty}
 use Rattle.diagram_ops.proofs.pairs.first_or_one.Goals as goal
 

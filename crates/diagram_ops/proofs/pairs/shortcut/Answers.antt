@@ -1,4 +1,4 @@
-use Rattle.std.proofs.Common.{◌∙◌, ap, subst, sym}
+use Rattle.std.proofs.Common.{◌∙◌, ap, subst}
 use Rattle.diagram_ops.specs.declared.product.Product.{Product}
 use Rattle.diagram_ops.specs.declared.product.Product.TheVariants.{Single}
 use Rattle.diagram_ops.specs.Meanings.{IsJoinOf}

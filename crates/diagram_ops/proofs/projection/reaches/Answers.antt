@@ -1,4 +1,3 @@
-use Rattle.std.proofs.Common.{◌≡◌, Bool, true, false, not, refl}
 use Rattle.diagram_ops.proofs.Insides.{not_false}
 use Rattle.diagram_ops.proofs.projection.reaches.Goals as goal
 

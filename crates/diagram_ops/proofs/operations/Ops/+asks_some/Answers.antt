@@ -1,6 +1,5 @@
-use Rattle.std.proofs.Common.{sym, ap, arith, false, true}
+use Rattle.std.proofs.Common.{arith, false, true}
 use Rattle.diagram_arena.specs.declared.nodes.Ref.TheVariants.{Zero}
-use Rattle.diagram_arena.specs.Arena.{table}
 use Rattle.diagram_ops.proofs.Steps.{stays_self}
 use Rattle.diagram_ops.proofs.Memos.{answers_put}
 use Rattle.diagram_ops.proofs.Exits.{step_at, falls}

@@ -1,4 +1,4 @@
-use Rattle.std.proofs.Common.{ℕ, Ok, Err, sym, ◌∙◌, ap, subst, arith, false, true}
+use Rattle.std.proofs.Common.{ℕ, Ok, Err, sym, ap, subst, arith, false, true}
 use Rattle.diagram_arena.specs.Arena.{table}
 use Rattle.diagram_ops.specs.Meanings.{first_of, front_of, ProjectsWords}
 use Rattle.diagram_ops.proofs.Exits.{sofar_self, passed_on, not_full}

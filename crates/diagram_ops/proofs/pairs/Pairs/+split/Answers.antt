@@ -1,7 +1,7 @@
-use Rattle.std.proofs.Common.{◌∙◌, sym, subst, ap, arith, true, false}
+use Rattle.std.proofs.Common.{sym, subst, ap, arith, true, false}
 use Rattle.diagram_arena.specs.Arena.{table}
 use Rattle.diagram_ops.specs.declared.product.Product.{Product}
-use Rattle.diagram_ops.specs.declared.product.Product.TheVariants.{Single, Both}
+use Rattle.diagram_ops.specs.declared.product.Product.TheVariants.{Single}
 use Rattle.diagram_ops.specs.Meanings.{rank, first_of, AreSidesOf}
 use Rattle.diagram_ops.proofs.Meant.{first_more, there_more, extends_then}
 use Rattle.diagram_ops.proofs.Moves.{descends, side_there, pair_sides, own_sides, single_sides}
