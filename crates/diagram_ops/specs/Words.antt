@@ -1,15 +1,12 @@
 -- The operations on sets of words, and what a call that makes nodes leaves.
-use Rattle.std.specs.Prelude.{◌≡◌, ℕ, ◌≤◌, ◌==◌, Bool, true, false, not, ◌&&◌, ◌||◌, if◌then◌else◌, None, Some}
-use Rattle.std.specs.FinMap as map
+use Rattle.std.specs.Prelude.{◌≡◌, ℕ, ◌≤◌, ◌==◌, Bool, true, false, not, ◌&&◌, ◌||◌, if◌then◌else◌, List, All, None}
+use Rattle.std.specs.List.{list_all}
 use Rattle.diagram_arena.specs.declared.nodes.NodeId.{NodeId}
-use Rattle.diagram_arena.specs.declared.nodes.Node.{Node as Stored}
 use Rattle.diagram_arena.specs.declared.nodes.Ref.{Ref}
 use Rattle.diagram_arena.specs.declared.nodes.Ref.TheVariants.{Node}
-use Rattle.diagram_arena.specs.Table.{Word, Words, Table, has, IsLive, depth, IsReduced}
+use Rattle.diagram_arena.specs.Table.{Word, Words, Table, has, IsLive, depth}
 use Rattle.diagram_arena.specs.Part.{with_bit, IsPartOf}
-use Rattle.diagram_arena.specs.Reach.{Bits, ReachesOnly}
-use Rattle.diagram_arena.specs.Arena.{ArenaState, table, KeepsNodes, NewAreUntagged, Grows}
-use Rattle.node_reclaim.specs.Pool.{PoolState}
+use Rattle.diagram_arena.specs.Reach.{Bits}
 
 -- intersection, union, difference and complement
 abbrev pub both : Words → Words → Words
@@ -31,6 +28,21 @@ Lies V W = (w : Word) → V w ≡ true → W w ≡ true
 -- some word of the one set is not in the other
 abbrev pub Leaves : Words → Words → Type 0
 Leaves V W = (w : Word) × (V w ≡ true) × (W w ≡ false)
+
+-- a set has no word, or has one
+abbrev pub HasNone : Words → Type 0
+HasNone V = (w : Word) → V w ≡ false
+
+abbrev pub HasSome : Words → Type 0
+HasSome V = (w : Word) × (V w ≡ true)
+
+-- the words that are in f and in each of gs
+abbrev pub product_of : Table → Ref → List Ref → Words
+product_of t f gs = λ w. has t f w && list_all (λ g. has t g w) gs
+
+-- r asks no bit before f and gs do
+abbrev pub IsAsDeepAsAll : Table → Ref → List Ref → ℕ → Type 0
+IsAsDeepAsAll t f gs d = (b : ℕ) → b ≤ depth t f → All (λ g. b ≤ depth t g) gs → b ≤ d
 
 -- all words with that value of the bit
 abbrev pub words_with : ℕ → Bool → Words

@@ -2,12 +2,12 @@
 #![tactic(auto)]
 
 mod operations;
+mod pairs;
+mod product;
+mod products;
 mod projection;
 mod question;
 mod settled;
 mod split;
 
 pub use operations::Ops;
-
-#[cfg(test)]
-mod tests;
