@@ -4,6 +4,7 @@ ghost use Rattle.std.specs.Prelude.{◌≡◌, ◌≤◌, ◌^◌, false, IfSome
 use std::alloc::AllocError;
 use std::convert::From;
 use std::hash::{Hash, Hasher};
+use std::mem::size_of;
 
 /// The name of a node of one arena. It says nothing of when the node was made.
 #[derive(Clone, Copy, PartialEq, Eq, PartialOrd, Ord, Hash, Debug)]
@@ -98,6 +99,10 @@ impl Node {
         }
     }
 }
+
+// A node and its entry in the index take 64 bytes, 8 of them for the slot, beside what the hash table adds (14 or more).
+const _: () = prove!(size_of::<Node>() == 32);
+const _: () = prove!(size_of::<Triple>() + size_of::<NodeId>() == 24);
 
 /// Why a node was not made.
 #[derive(Clone, Copy, PartialEq, Eq, Debug)]

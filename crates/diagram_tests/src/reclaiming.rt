@@ -1,5 +1,9 @@
 //! Reclamations: what pins reach is kept, and an id is given again.
-use diagram_arena::Ref;
+ghost use Rattle.std.specs.Prelude.{IfOk};
+ghost use Rattle.diagram_arena.specs.Table.{IsLive};
+ghost use Rattle.diagram_arena.specs.Arena.{table};
+
+use diagram_arena::{Ref, Stop};
 use node_reclaim::Pool;
 use std::test::Fail;
 
@@ -27,5 +31,33 @@ fn keeps_what_pins_reach(rt: HostRuntime) -> Result<(), Fail> {
         assert_eq!(rt; pool.arena().tag(id), 0);
     }
     assert_eq!(rt; (pool.arena().len(), pool.made_since()), (3, 1));
+    Ok(())
+}
+
+/// One node a bit, each below the one before it.
+#[tactic(auto, using(diagram_arena::proofs::Meaning::terminals))]
+fn chain(pool: &mut Pool, bits: u32) -> Result<Ref, Stop>
+    ensures { IfOk result (IsLive (table pool.new.arena)) }
+{
+    let mut below = Ref::One;
+    let mut left = bits;
+    while left > 0 {
+        left -= 1;
+        below = pool.make(left, Ref::Zero, below)?;
+    }
+    Ok(below)
+}
+
+/// A chain over 2,048 bits is kept to its end where its first node is pinned, and removed once it is not.
+#[test]
+fn keeps_a_long_chain(rt: HostRuntime) -> Result<(), Fail> {
+    let mut pool = Pool::new(rt.alloc(), 4_096);
+    let first = chain(&mut pool, 2_048)?;
+    let pin = pool.pin(first).expect(&rt, "a pin");
+    pool.reclaim();
+    assert_eq!(rt; pool.arena().len(), 2_048);
+    pool.unpin(pin);
+    pool.reclaim();
+    assert_eq!(rt; pool.arena().len(), 0);
     Ok(())
 }
