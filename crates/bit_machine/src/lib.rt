@@ -19,6 +19,3 @@ pub use laws::{
     side_by_side_accepts,
 };
 pub use machines::Machine;
-
-#[cfg(test)]
-mod tests;

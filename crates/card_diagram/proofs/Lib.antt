@@ -1,4 +1,3 @@
 mod Cards
 mod Ends
-mod Samples
 mod Words

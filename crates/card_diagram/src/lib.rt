@@ -9,6 +9,3 @@ mod shapes;
 mod sums;
 
 pub use shapes::{card_shape, is_card_shape};
-
-#[cfg(test)]
-mod tests;

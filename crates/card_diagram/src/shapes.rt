@@ -5,7 +5,7 @@ ghost use Rattle.node_reclaim.specs.Growth.{IsFull, Stays};
 ghost use Rattle.bit_machine.specs.Rules.{most_bits};
 ghost use Rattle.set_meaning.specs.Relations.{HoldsOf};
 ghost use Rattle.set_meaning.specs.Rows.{FitsRow};
-ghost use Rattle.scope_words.specs.Words.{variables_in, AreBitsOf, IsDiagramOf, NewArePartsOfWords, NewReachOnlyScope};
+ghost use Rattle.scope_words.specs.Words.{HaveFewBits, variables_in, AreBitsOf, IsDiagramOf, NewArePartsOfWords, NewReachOnlyScope};
 ghost use Rattle.card_diagram.specs.Shapes.{is_shape};
 
 use crate::machines::{cardinalities_have_words, machine_of};
@@ -42,7 +42,7 @@ pub fn card_shape(
     requires shape { is_shape c.now.relation ≡ true }
     requires fits { FitsRow p.now.kinds c.now }
     requires layout { layout.now.kinds ≡ p.now.kinds }
-    requires few { (bits : List ℕ) → AreBitsOf layout.now (variables_in c.now.args) bits → length bits ≤ most_bits }
+    requires few { HaveFewBits layout.now (variables_in c.now.args) }
     ensures diagram { IfOk result (IsDiagramOf layout.now (variables_in c.now.args) (HoldsOf c.now.relation c.now.args) (table ops.new.arena)) }
     ensures stays { Stays ops.old ops.new }
     ensures full { result ≡ Err Stop.Full → IsFull ops.new }

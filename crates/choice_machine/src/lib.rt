@@ -14,6 +14,3 @@ pub use building::choice_of;
 pub use losing::Losing;
 pub use machine::ChoiceMachine;
 pub use rows::Row;
-
-#[cfg(test)]
-mod tests;

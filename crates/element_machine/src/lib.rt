@@ -17,6 +17,3 @@ pub use laws::bits_are_read_by_elements;
 pub use machines::ElementMachine;
 pub use marks::{Entry, Marks};
 pub use reading::ByElements;
-
-#[cfg(test)]
-mod tests;

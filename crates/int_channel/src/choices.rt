@@ -52,6 +52,3 @@ pub(crate) fn branches_of(
         _ => unreachable!(),
     }
 }
-
-#[cfg(test)]
-mod tests;

@@ -11,13 +11,5 @@ mod machines;
 mod members;
 mod shapes;
 mod sums;
-mod variables;
 
 pub use shapes::{is_scalar_shape, scalar_shape};
-
-#[cfg(test)]
-mod small_domains;
-#[cfg(test)]
-mod tests;
-#[cfg(test)]
-mod wide;

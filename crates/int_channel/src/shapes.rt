@@ -7,7 +7,7 @@ ghost use Rattle.bit_machine.specs.Rules.{most_bits};
 ghost use Rattle.set_meaning.specs.Relations.{HoldsOf, terms_of};
 ghost use Rattle.set_meaning.specs.Rows.{ArePaired, FitsRow, HasShape, row_of, shapes_of};
 ghost use Rattle.problem_limits.specs.Limits.{HasSmallNumbers, IsSmallTerm};
-ghost use Rattle.scope_words.specs.Words.{variables_in, AreBitsOf, IsDiagramOf, NewArePartsOfWords, NewReachOnlyScope};
+ghost use Rattle.scope_words.specs.Words.{HaveFewBits, variables_in, AreBitsOf, IsDiagramOf, NewArePartsOfWords, NewReachOnlyScope};
 ghost use Rattle.int_channel.specs.Shapes.{is_choice, is_shape, is_sum};
 ghost use Rattle.int_channel.specs.Machines.{IsMachineOf};
 
@@ -88,7 +88,7 @@ pub fn scalar_shape(
     requires shape { is_shape c.now.relation ≡ true }
     requires fits { FitsRow p.now.kinds c.now }
     requires layout { layout.now.kinds ≡ p.now.kinds }
-    requires few { (bits : List ℕ) → AreBitsOf layout.now (variables_in c.now.args) bits → length bits ≤ most_bits }
+    requires few { HaveFewBits layout.now (variables_in c.now.args) }
     requires numbers { All HasSmallNumbers p.now.kinds }
     requires constants { All IsSmallTerm (flat_map terms_of c.now.args) }
     requires terms { length (flat_map terms_of c.now.args) ≤ 4194304 }
@@ -121,7 +121,7 @@ fn shape_over(
     requires kinds { layout.now.kinds ≡ kinds.now }
     requires fits { AllZip (HasShape kinds.now) (shapes_of (row_of relation)) args.now }
     requires paired { IsTrue (row_of relation).paired → ArePaired args.now }
-    requires few { (bits : List ℕ) → AreBitsOf layout.now (variables_in args.now) bits → length bits ≤ most_bits }
+    requires few { HaveFewBits layout.now (variables_in args.now) }
     requires numbers { All HasSmallNumbers kinds.now }
     requires constants { All IsSmallTerm (flat_map terms_of args.now) }
     requires terms { length (flat_map terms_of args.now) ≤ 4194304 }
@@ -149,7 +149,7 @@ fn built<M: Machine + Drop>(
     made: Result<Beside<M>, AllocError>,
 ) -> Result<Ref, Stop>
     requires shape { is_shape relation ≡ true }
-    requires few { (bits : List ℕ) → AreBitsOf layout.now (variables_in args.now) bits → length bits ≤ most_bits }
+    requires few { HaveFewBits layout.now (variables_in args.now) }
     requires machine { IfOk made (λ m. IsMachineOf layout.now relation args.now m.bits.items m.machine.first (M.rules m.machine.second)) }
     requires places { IfOk made (λ m. M.places m.machine.second ≡ length m.bits.items) }
     requires valid { IfOk made (λ m. M.valid m.machine.second) }

@@ -15,9 +15,6 @@ use relations::table_sum;
 use set_meaning::{Arg, Kind, Relation};
 use std::alloc::{AllocError, Global};
 
-#[cfg(test)]
-mod tests;
-
 /// The linear sum that compares with 0 just where the relation holds. Constants count towards its constant; a variable that stands twice has
 /// two terms. Time is of the order of the terms. An `Err` is want of memory.
 pub(crate) fn sum_of(

@@ -17,6 +17,3 @@ pub use comparison::Comparison;
 pub use laws::accepts_by_its_sum;
 pub use linear::Linear;
 pub use state::State;
-
-#[cfg(test)]
-mod tests;

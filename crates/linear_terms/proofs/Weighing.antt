@@ -110,23 +110,3 @@ product_small c x size is cs xs = let m = mul-le (unsigned_abs c) (unsigned_abs 
 pub word_size : (z : ℤ) → FitsSigned w64 z → unsigned_abs z ≤ 2 ^ 63
 word_size (pos n) fits = let h = fits.sfits in omega arith
 word_size (negsuc n) fits = let h = fits.sfits in omega arith
-
--- ---- the scope of terms
-
-All-variables : (terms : List LinearTerm) → All (λ t. Contains (map (λ u. u.variable) terms) t.variable) terms
-All-variables terms k d within =
-    let long : k < length (map (λ (u : LinearTerm). u.variable) terms) = subst (λ n. k < n) (sym (length-map terms (λ (u : LinearTerm). u.variable))) within in
-    let other = (get_or terms k d).variable in
-    (k, long, get_or-map (λ (u : LinearTerm). u.variable) terms k d other within)
-
-pub terms_in_scope : (terms : List LinearTerm) (scope : List VarId) → scope ≡ map (λ t. t.variable) terms → All (λ t. Contains scope t.variable) terms
-terms_in_scope terms scope is =
-    subst (λ vs. All (λ t. Contains vs t.variable) terms) (sym is)
-    (All-variables terms)
-
-pub variables_known : (kinds others : List Kind) (terms : List LinearTerm) (scope : List VarId) → scope ≡ map (λ t. t.variable) terms → kinds ≡ others → All (λ t. t.variable.0 < length others) terms
-    → All (λ (v : VarId). v.0 < length kinds) scope
-variables_known kinds others terms scope is same known =
-    let P : VarId → Type 0 = λ v. v.0 < length kinds in
-    let Q : List Kind → Type 0 = λ ks. All (λ (t : LinearTerm). t.variable.0 < length ks) terms in
-    subst (All P) (sym is) (All-map P (λ (t : LinearTerm). t.variable) terms (subst Q (sym same) known))

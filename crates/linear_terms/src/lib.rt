@@ -12,6 +12,3 @@ mod terms;
 
 pub use laws::{linear_sums_have_words, scopes_have_the_bits_of_terms};
 pub use terms::{LinearTerm, linear_over};
-
-#[cfg(test)]
-mod tests;

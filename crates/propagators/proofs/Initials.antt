@@ -33,7 +33,7 @@ use Rattle.exact_steps.proofs.Sets.{value_whole, own_words}
 use Rattle.exact_steps.proofs.Wanted.{bits_of_one}
 use Rattle.propagators.specs.Compiled.{IsInitialDomain}
 use Rattle.propagators.specs.Units.{Anything}
-use Rattle.propagators.specs.Work.{HaveFewBits}
+use Rattle.scope_words.specs.Words.{HaveFewBits}
 use Rattle.propagators.proofs.Moving.{listed_at}
 use Rattle.propagators.proofs.Truths.{ValuesFit, with_bool}
 

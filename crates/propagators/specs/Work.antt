@@ -22,10 +22,6 @@ use Rattle.node_reclaim.specs.Holders.{Gains, StaysButPins}
 use Rattle.propagators.specs.Compiled.{IsInitialDomain}
 use Rattle.propagators.specs.Units.{Anything, IsPartOfWords, IsWantedBy, NewAreOfUnits, AreDone}
 
--- these variables have few bits
-abbrev pub HaveFewBits : LayoutState → List VarId → Type 0
-HaveFewBits l variables = (bits : List ℕ) → AreBitsOf l variables bits → length bits ≤ most_bits
-
 -- each new node is a part of the set of the words that give these variables values which satisfy C
 abbrev pub NewAreOfWords : LayoutState → List VarId → (List Value → Type 0) → Table → Table → Type 0
 NewAreOfWords l variables C old new = (i : NodeId) → old i ≡ None → IsLive new (Node i) → IsPartOfWords l variables C (has new (Node i))

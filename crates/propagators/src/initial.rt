@@ -5,7 +5,8 @@ ghost use Rattle.node_reclaim.specs.Growth.{IsFull, Stays};
 ghost use Rattle.scope_words.specs.Words.{IsDiagramOf};
 ghost use Rattle.propagators.specs.Compiled.{IsInitialDomain};
 ghost use Rattle.propagators.specs.Units.{Anything};
-ghost use Rattle.propagators.specs.Work.{HaveFewBits, NewAreOfWords, AcceptsInitial};
+ghost use Rattle.scope_words.specs.Words.{HaveFewBits};
+ghost use Rattle.propagators.specs.Work.{NewAreOfWords, AcceptsInitial};
 
 use bit_layout::{Bit, Layout};
 use bit_machine::build;

@@ -10,7 +10,8 @@ ghost use Rattle.scope_words.specs.Words.{variables_in, IsDiagramOf};
 ghost use Rattle.problem_limits.specs.Limits.{HasSmallNumbers, IsWithinLimits};
 ghost use Rattle.propagators.specs.Compiled.{IsDiagramOfConstraint};
 ghost use Rattle.propagators.specs.Units.{Relates, Fails, IsRelated, HasTruthOfRelation};
-ghost use Rattle.propagators.specs.Work.{HaveFewBits, LeavesFor, truth_of};
+ghost use Rattle.scope_words.specs.Words.{HaveFewBits};
+ghost use Rattle.propagators.specs.Work.{LeavesFor, truth_of};
 ghost use Rattle.node_reclaim.specs.Growth.{IsFull};
 
 use crate::initial::initial_words;

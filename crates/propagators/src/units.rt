@@ -7,7 +7,8 @@ ghost use Rattle.diagram_arena.specs.Arena.{table};
 ghost use Rattle.scope_words.specs.Words.{variables_in};
 ghost use Rattle.problem_limits.specs.Limits.{HasSmallNumbers, IsWithinLimits, KeepsLimits};
 ghost use Rattle.propagators.specs.Compiled.{IsInitialDomain, AreInitialDomains, IsDiagramOfConstraint};
-ghost use Rattle.propagators.specs.Work.{HaveFewBits, LeavesUnits, AddsHeld, AreFirstDomains, HoldsConstraints, HoldsUnits};
+ghost use Rattle.scope_words.specs.Words.{HaveFewBits};
+ghost use Rattle.propagators.specs.Work.{LeavesUnits, AddsHeld, AreFirstDomains, HoldsConstraints, HoldsUnits};
 ghost use Rattle.node_reclaim.specs.Growth.{IsFull};
 
 use crate::held::HeldPins;

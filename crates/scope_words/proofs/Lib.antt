@@ -2,4 +2,3 @@ pub mod Bits
 pub mod Words
 pub mod PlaceLists
 pub mod Decoding
-pub mod Samples

@@ -1,6 +1,6 @@
 -- The words of what satisfies a constraint: each variable's value as its word, at the variable's bits. This project's own, after
 -- the diagrams of constraints over set variables (Hawkins, Lagoon and Stuckey, JAIR 2005).
-use Rattle.std.specs.Prelude.{◌≡◌, ℕ, ◌↔◌, Bool, true, false, List, IsSomeAnd, slice_get, slice_index_or, Contains, map, filter_map, flat_map, ⊤}
+use Rattle.std.specs.Prelude.{◌≡◌, ℕ, ◌≤◌, ◌↔◌, length, Bool, true, false, List, IsSomeAnd, slice_get, slice_index_or, Contains, map, filter_map, flat_map, ⊤}
 use Rattle.std.specs.List.{range_with_len}
 use Rattle.std.specs.List.Sorted.{IsStrictlyIncreasing}
 use Rattle.std.specs.Option.{option_map_or}
@@ -36,6 +36,10 @@ IsBitOf l scope b = IsSomeAnd (slice_get l.places b) (λ p. Contains scope p.var
 pub record AreBitsOf (l : LayoutState) (scope : List VarId) (bits : List ℕ) : Type 0 where
   pub ascending : IsStrictlyIncreasing bits
   pub members : (b : ℕ) → Contains bits b ↔ IsBitOf l scope b
+
+-- the variables have few bits together: no more than the scope of a constraint may have
+abbrev pub HaveFewBits : LayoutState → List VarId → Type 0
+HaveFewBits l variables = (bits : List ℕ) → AreBitsOf l variables bits → length bits ≤ 2048
 
 -- ---- words and values
 

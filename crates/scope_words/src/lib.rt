@@ -8,6 +8,7 @@
 mod laws;
 mod places;
 mod scope;
+mod variables;
 
 pub use laws::{
     Condition, assignments_have_words, bits_of_a_scope_are_one, bits_of_a_scope_have_positions,
@@ -16,6 +17,4 @@ pub use laws::{
 };
 pub use places::scope_places;
 pub use scope::scope_bits;
-
-#[cfg(test)]
-mod tests;
+pub use variables::{have_few_bits, variables_in};

@@ -8,7 +8,6 @@ pub mod SetOrders
 pub mod Fitting
 pub mod Existing
 pub mod Ends
-pub mod Samples
 pub mod PassedBits
 pub mod OneBranch
 pub mod AllBranches

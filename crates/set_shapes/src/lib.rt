@@ -16,14 +16,6 @@ mod progress;
 mod shapes;
 mod tables;
 mod tests_of_elements;
-mod variables;
 
 pub use machines::is_set_shape;
 pub use shapes::set_shape;
-
-#[cfg(test)]
-mod array_items;
-#[cfg(test)]
-mod small_universes;
-#[cfg(test)]
-mod tests;

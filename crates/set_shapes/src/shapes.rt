@@ -10,7 +10,7 @@ ghost use Rattle.bit_machine.specs.Rules.{accepts, most_bits};
 ghost use Rattle.element_machine.specs.Reading.{AreGrouped, by_elements};
 ghost use Rattle.set_meaning.specs.Relations.{HoldsOf};
 ghost use Rattle.set_meaning.specs.Rows.{FitsRow};
-ghost use Rattle.scope_words.specs.Words.{variables_in, AreBitsOf, IsDiagramOf, NewArePartsOfWords, NewReachOnlyScope};
+ghost use Rattle.scope_words.specs.Words.{HaveFewBits, variables_in, AreBitsOf, IsDiagramOf, NewArePartsOfWords, NewReachOnlyScope};
 ghost use Rattle.set_shapes.specs.Operands.{operands_of};
 ghost use Rattle.set_shapes.specs.Shapes.{is_between_sets, is_element, is_shape, machine_of, accepted_by};
 ghost use Rattle.set_shapes.specs.Tables.{AreSets, IsTable};
@@ -46,7 +46,7 @@ pub fn set_shape(
     requires shape { is_shape c.now.relation ≡ true }
     requires fits { FitsRow p.now.kinds c.now }
     requires layout { layout.now.kinds ≡ p.now.kinds }
-    requires few { (bits : List ℕ) → AreBitsOf layout.now (variables_in c.now.args) bits → length bits ≤ most_bits }
+    requires few { HaveFewBits layout.now (variables_in c.now.args) }
     ensures diagram { IfOk result (IsDiagramOf layout.now (variables_in c.now.args) (HoldsOf c.now.relation c.now.args) (table ops.new.arena)) }
     ensures stays { Stays ops.old ops.new }
     ensures full { result ≡ Err Stop.Full → IsFull ops.new }
@@ -70,7 +70,7 @@ fn element_shape(
     requires shape { is_element c.now.relation ≡ true }
     requires fits { FitsRow p.now.kinds c.now }
     requires layout { layout.now.kinds ≡ p.now.kinds }
-    requires few { (bits : List ℕ) → AreBitsOf layout.now (variables_in c.now.args) bits → length bits ≤ most_bits }
+    requires few { HaveFewBits layout.now (variables_in c.now.args) }
     ensures diagram { IfOk result (IsDiagramOf layout.now (variables_in c.now.args) (HoldsOf c.now.relation c.now.args) (table ops.new.arena)) }
     ensures stays { Stays ops.old ops.new }
     ensures full { result ≡ Err Stop.Full → IsFull ops.new }
@@ -98,7 +98,7 @@ fn shape_between_sets(
     requires shape { is_between_sets c.now.relation ≡ true }
     requires fits { FitsRow p.now.kinds c.now }
     requires layout { layout.now.kinds ≡ p.now.kinds }
-    requires few { (bits : List ℕ) → AreBitsOf layout.now (variables_in c.now.args) bits → length bits ≤ most_bits }
+    requires few { HaveFewBits layout.now (variables_in c.now.args) }
     ensures diagram { IfOk result (IsDiagramOf layout.now (variables_in c.now.args) (HoldsOf c.now.relation c.now.args) (table ops.new.arena)) }
     ensures stays { Stays ops.old ops.new }
     ensures full { result ≡ Err Stop.Full → IsFull ops.new }

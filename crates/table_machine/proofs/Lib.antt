@@ -7,4 +7,3 @@ mod Scopes
 mod ValueWords
 mod Fitting
 mod MarkedWords
-mod Samples

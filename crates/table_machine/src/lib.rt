@@ -15,6 +15,3 @@ mod states;
 pub use laws::{relations_have_words, values_fit_together};
 pub use machine::TableMachine;
 pub use states::{Reading, State};
-
-#[cfg(test)]
-mod tests;

@@ -1,6 +1,6 @@
 use Rattle.std.proofs.Common.{sym, ◌∙◌, subst, ap}
 use Rattle.scope_words.specs.Words.{variables_in}
-use Rattle.propagators.specs.Work.{HaveFewBits}
+use Rattle.scope_words.specs.Words.{HaveFewBits}
 use Rattle.propagators.proofs.Leaving.{leaves_self}
 use Rattle.propagators.proofs.reified.failing.Goals as goal
 

@@ -1,7 +1,0 @@
-use Rattle.diagram_arena.specs.declared.nodes.Ref.{Ref}
-use Rattle.diagram_arena.specs.Table.{IsLive}
-use Rattle.diagram_arena.specs.Arena.{table}
-use Rattle.bit_machine.proofs.tests.word.Given as goal
-
-abbrev pub invariant-loop-bit : goal.invariant-loop-bit
-invariant-loop-bit l = IsLive (table l.ops.arena) l.word × ((r : Ref) → IsLive (table l.initial.ops.arena) r → IsLive (table l.ops.arena) r)

@@ -1,6 +1,0 @@
-use Rattle.diagram_arena.specs.Table.{IsLive}
-use Rattle.diagram_arena.specs.Arena.{table}
-use Rattle.int_channel.proofs.small_domains.agrees.Given as goal
-
-abbrev pub invariant-loop-code : goal.invariant-loop-code
-invariant-loop-code l = IsLive (table l.ops.arena) l.f

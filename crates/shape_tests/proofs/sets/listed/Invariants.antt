@@ -1,0 +1,6 @@
+use Rattle.diagram_arena.specs.Table.{IsLive}
+use Rattle.diagram_arena.specs.Arena.{table}
+use Rattle.shape_tests.proofs.sets.listed.Given as goal
+
+abbrev pub invariant-loop-digits : goal.invariant-loop-digits
+invariant-loop-digits l = IsLive (table l.ops.arena) l.list

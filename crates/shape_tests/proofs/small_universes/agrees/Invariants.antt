@@ -1,0 +1,6 @@
+use Rattle.diagram_arena.specs.Table.{IsLive}
+use Rattle.diagram_arena.specs.Arena.{table}
+use Rattle.shape_tests.proofs.small_universes.agrees.Given as goal
+
+abbrev pub invariant-loop-digits : goal.invariant-loop-digits
+invariant-loop-digits l = IsLive (table l.ops.arena) l.f
