@@ -1,6 +1,6 @@
 use Rattle.std.proofs.Common.{vec_len}
-use Rattle.propagators.proofs.Counting.{AreLeft}
-use Rattle.propagators.proofs.held.HeldPins.release.Given as goal
+use Rattle.pin_lists.proofs.Counting.{AreLeft}
+use Rattle.pin_lists.proofs.lists.PinList.release.Given as goal
 
 abbrev pub invariant-loop-pin : goal.invariant-loop-pin
 invariant-loop-pin l = AreLeft l.initial.ops l.initial.pins.items l.ops l.pins.items

@@ -1,0 +1,12 @@
+//! Making room between two tries of a unit.
+ghost use Rattle.pin_lists.specs.Units.{Collects};
+
+use diagram_ops::Ops;
+
+/// Frees the nodes that no pin reaches. What is pinned keeps its meaning, and no set of words is new. Takes no memory.
+pub fn collect(ops: &mut Ops)
+    ensures { Collects ops.old ops.new }
+{
+    // What holds of every pool.
+    let _ = ops.pool();
+}
