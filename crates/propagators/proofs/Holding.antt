@@ -1,6 +1,6 @@
 -- Units that are done and pinned one after another.
 use Rattle.std.proofs.Common.{◌≡◌, ◌⊎◌, ℕ, zero, suc, ◌+◌, ◌<◌, ◌≤◌, List, [], ◌∷◌, ◌++◌, length, get_or, take, Some, Result, Ok, Err, refl, sym, ap, ◌∙◌, subst, inl, inr, append-nil, append_assoc, arith, Contains}
-use Rattle.std.specs.Prelude.{slice_get, OnErr}
+use Rattle.std.specs.Prelude.{slice_get, IfOk, OnErr}
 use Rattle.std.specs.List.{AllZip}
 use Rattle.std.specs.Option.{unwrap_or}
 use Rattle.std.specs.FinMap as map
@@ -16,6 +16,7 @@ use Rattle.set_meaning.specs.Relations.{Holds, variables_of, IsScope}
 use Rattle.bit_layout.specs.Order.{LayoutState}
 use Rattle.bit_layout.proofs.Listing.{all_zip_next}
 use Rattle.diagram_arena.specs.declared.nodes.Ref.{Ref}
+use Rattle.diagram_arena.specs.declared.nodes.Stop.{Stop}
 use Rattle.diagram_arena.specs.Table.{Table, id_cmp, IsReduced}
 use Rattle.diagram_arena.specs.Arena.{ArenaState, table, Grows}
 use Rattle.node_reclaim.specs.Pool.{PoolState}
@@ -290,3 +291,14 @@ compiled_start l p t slice start diagrams e same long done = record {
 pub on_err : {X E : Type 0} (r : Result X E) (P : Type 0) → P → OnErr r P
 on_err (Ok x) P h = tt
 on_err (Err e) P h = h
+
+-- a unit that was tried again, whatever came of it
+pub held_again : (l : LayoutState) (p : Problem) (old a b new : PoolState) (before mid after : List Ref) (result : Result Ref Stop) → AddsHeld l p old a before mid [] → Collects a b
+    → IfOk result (λ r. AddsHeld l p b new mid after (r ∷ [])) → IfOk result (λ r. AddsHeld l p old new before after (r ∷ []))
+held_again l p old a b new before mid after (Ok r) first swept h = adds_again l p old a b new before mid after (r ∷ []) first swept h
+held_again l p old a b new before mid after (Err e) first swept h = tt
+
+pub refused_again : (l : LayoutState) (p : Problem) (old a b new : PoolState) (before mid after : List Ref) (result : Result Ref Stop) → AddsHeld l p old a before mid [] → Collects a b
+    → OnErr result (AddsHeld l p b new mid after []) → OnErr result (AddsHeld l p old new before after [])
+refused_again l p old a b new before mid after (Ok r) first swept h = tt
+refused_again l p old a b new before mid after (Err e) first swept h = adds_again l p old a b new before mid after [] first swept h

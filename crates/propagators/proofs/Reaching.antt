@@ -1,5 +1,5 @@
 -- The nodes of a unit reach only bits of its variables; and what a compilation ends with.
-use Rattle.std.proofs.Common.{◌≡◌, List, [], ◌∷◌, refl, sym, ap, subst, arith, Contains}
+use Rattle.std.proofs.Common.{◌≡◌, List, [], ◌∷◌, refl, sym, ap, subst, inl, inr, arith, Contains}
 use Rattle.std.specs.List.{AllZip}
 use Rattle.std.specs.FinMap as map
 use Rattle.set_meaning.specs.declared.kinds.Value.{Value}
