@@ -9,13 +9,13 @@ use Rattle.set_meaning.specs.declared.problems.Problem.{Problem}
 use Rattle.bit_layout.specs.Order.{LayoutState}
 use Rattle.diagram_arena.specs.declared.nodes.NodeId.{NodeId}
 use Rattle.diagram_arena.specs.declared.nodes.Ref.{Ref}
-use Rattle.diagram_arena.specs.Table.{Words, Table}
+use Rattle.diagram_arena.specs.Table.{Words, Table, IsReduced}
 use Rattle.diagram_arena.specs.Arena.{table}
 use Rattle.node_reclaim.specs.Pool.{PoolState}
 use Rattle.node_reclaim.specs.Holders.{AreHeld, MeansTheSame}
-use Rattle.pin_lists.specs.Units.{Moves, UnitsLeave, Collects}
+use Rattle.pin_lists.specs.Units.{PinnedAreLive, Moves, UnitsLeave, Collects}
 use Rattle.pin_lists.proofs.Counting.{times-append}
-use Rattle.pin_lists.proofs.Leaving.{units_then, units_frame, units_begun, collection_leaves, held_beside}
+use Rattle.pin_lists.proofs.Leaving.{pins_leave, units_then, units_frame, units_begun, collection_leaves, held_beside}
 use Rattle.search_rules.specs.Problem as rules
 use Rattle.search_rules.specs.Measure.{total}
 use Rattle.exact_steps.specs.Domains.{variable, values_in, AreDomains, family}
@@ -106,7 +106,19 @@ module _ (P : Words → Type 0) (a begun b c again : PoolState) (first : begun �
     pub family_again : family l (table again.arena) domains ≡ family l (table a.arena) domains
     family_again = ap (λ (s : PoolState). family l (table s.arena) domains) second ∙ family_same l (table a.arena) (table c.arena) domains domains_mean
 
+    -- and where the second try was refused too
+    pub way_stopped : (d : PoolState) (now after : List Ref) → now ≡ domains → after ≡ now → UnitsLeave P again d [] [] → IsOnWay p l (table a.arena) domains → IsOnWay p l (table d.arena) after
+    way_stopped d now after same unchanged left way =
+        subst (IsOnWay p l (table d.arena)) (sym unchanged)
+        (way_same p l (table again.arena) (table d.arena) now (λ r h. all_kept P again d (pinned_by k ++ now) left (held_again now same) r (Contains-append_right (pinned_by k) now r h)) (way_again now same way))
+
   -- and with it
   pub after_again : (d : PoolState) (domains now after : List Ref) → now ≡ domains → UnitsLeave P again d now after → UnitsLeave P a d domains after
   after_again d domains now after same more =
       units_then P a c d domains domains after (framed P a c domains before_again) (units_begun P c again d domains after second (subst (λ ds. UnitsLeave P again d ds after) same more))
+
+-- the domains were pinned, and then narrowed
+pub found_leaves : (P : Words → Type 0) (a b c : PoolState) (none first last : List Ref) → PinnedAreLive a → IsReduced (table a.arena) → b ≡ record a { counts = b.counts } → Moves a b none first → none ≡ [] → UnitsLeave P b c first last
+    → UnitsLeave P a c [] last
+found_leaves P a b c none first last pinned ok only moved empty second =
+    units_then P a b c [] first last (pins_leave P a b [] first pinned ok (ap (λ (s : PoolState). s.arena) only) (subst (λ ds. Moves a b ds first) empty moved)) second

@@ -15,7 +15,7 @@ use Rattle.node_reclaim.specs.Pool.{PoolState, Unpins}
 use Rattle.node_reclaim.specs.Holders.{Gains, AreHeld, KeepsPins, MeansTheSame}
 use Rattle.pin_lists.specs.Units.{PinnedAreLive, AllAre, UnitsLeave}
 use Rattle.pin_lists.proofs.Counting.{times-append}
-use Rattle.pin_lists.proofs.Leaving.{means_itself, means_then, all_itself, all_then, held_beside}
+use Rattle.pin_lists.proofs.Leaving.{means_itself, means_then, all_itself, all_then, held_beside, only_then}
 use Rattle.propagators.specs.Compiled.{CompiledState, pinned_by, IsCompiled, IsDiagramOfConstraint}
 use Rattle.propagators.specs.Units.{AreDone, IsOfUnit, PinsAfter}
 use Rattle.learn_search.specs.Pinned.{AreDomainsOfFirst, LeavesPinned, PinsAfterStop}
@@ -56,7 +56,7 @@ compile_stopped p l a b Full ok same h = record {
   diagrams = h.1;
   done = h.2;
   way = [];
-  on_way = λ v r e. absurd (cc);
+  on_way = record { each = λ v r e. absurd (cc) };
   gains = λ i. let g = h.3 i in let e = times-append i (h.0 ++ h.1) [] in omega (arith, g, e);
 }
 compile_stopped p l a b Memory ok same h = h
@@ -114,3 +114,18 @@ module _ (p : Problem) (l : LayoutState) (a b c : PoolState) (k : CompiledState)
     pub leaves_after : (stop : Stop) → (Some stop ≡ Some Full → d ≡ c) → ((Some stop ≡ Some Full → ⊥) → Unpins c d (pinned_by k ++ way)) → RootLeaves p a d
     leaves_after Full left spent = root_leaves d (ap (λ (s : PoolState). s.arena) (left refl))
     leaves_after Memory left spent = spent_leaves d (spent (λ e. cc))
+
+-- ---- pins that are taken back one list after another
+
+module _ (a b : PoolState) (frame way : List Ref) (held : AreHeld a (frame ++ way)) where
+  pub held_way : AreHeld a way
+  held_way i = let h = held i in let e = times-append i frame way in omega (arith, h, e)
+
+  pub held_frame : Unpins a b way → AreHeld b frame
+  held_frame spent i = let h = held i in let e = times-append i frame way in let l = spent.lost i in omega (arith, h, e, l)
+
+  pub both_spent : (c : PoolState) → Unpins a b way → Unpins b c frame → Unpins a c (frame ++ way)
+  both_spent c first second = record {
+    only = only_then a b c first.only second.only;
+    lost = λ i. let f = first.lost i in let s = second.lost i in let e = times-append i frame way in omega (arith, f, s, e);
+  }

@@ -10,15 +10,15 @@ use Rattle.diagram_arena.specs.declared.nodes.Stop.TheVariants.{Full, Memory}
 use Rattle.diagram_arena.specs.Table.{Table}
 use Rattle.diagram_arena.specs.Arena.{table}
 use Rattle.node_reclaim.specs.Pool.{PoolState, pins_of}
-use Rattle.node_reclaim.specs.Holders.{Gains}
+use Rattle.node_reclaim.specs.Holders.{Gains, KeepsPins}
 use Rattle.exact_steps.specs.Domains.{IsDomain}
 use Rattle.propagators.specs.Units.{AreDone}
 use Rattle.learn_search.specs.declared.search.SearchEnd.{SearchEnd}
 use Rattle.learn_search.specs.declared.search.SearchEnd.TheVariants as end
 
 -- domains of the first variables, so many, in order
-abbrev pub AreDomainsOfFirst : LayoutState → Table → List Ref → Type 0
-AreDomainsOfFirst l t refs = (v : VarId) (r : Ref) → slice_get refs v.0 ≡ Some r → IsDomain l t v r
+pub record AreDomainsOfFirst (l : LayoutState) (t : Table) (refs : List Ref) : Type 0 where
+  pub each : (v : VarId) (r : Ref) → slice_get refs v.0 ≡ Some r → IsDomain l t v r
 
 -- the domains of the initial values of the first variables, so many, the diagrams of the first constraints, so many, and domains on the way
 -- to the root family have gained a pin each; nothing else was pinned

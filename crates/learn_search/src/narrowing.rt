@@ -9,6 +9,7 @@ ghost use Rattle.pin_lists.specs.Units.{Moves, UnitsLeave};
 ghost use Rattle.problem_limits.specs.Limits.{KeepsLimits};
 ghost use Rattle.propagators.specs.Compiled.{pinned_by, IsCompiled};
 ghost use Rattle.learn_search.specs.Nodes.{IsOfRoot};
+ghost use Rattle.learn_search.specs.Pinned.{AreDomainsOfFirst};
 ghost use Rattle.learn_search.specs.Rounds.{IsOnWay, IsTaken, IsRound, IsFixed, put_each};
 
 use bit_layout::Layout;
@@ -46,7 +47,7 @@ pub(crate) fn narrow(
     ensures fixed { IfOk result (IsFixed p.now layout.now (table ops.new.arena) domains.new) }
     ensures left { UnitsLeave (IsOfRoot p.now) ops.old ops.new domains.old domains.new }
     ensures full { result ≡ Err Stop.Full → IsFull ops.new }
-    ensures stopped { result ≡ Err Stop.Full → IsOnWay p.now layout.now (table ops.new.arena) domains.new }
+    ensures stopped { result ≡ Err Stop.Full → AreDomainsOfFirst layout.now (table ops.new.arena) domains.new }
 {
     // What holds of every pool.
     let _ = ops.pool();
@@ -75,7 +76,7 @@ fn round(
     ensures round { IfOk result (IsRound p.now layout.now (table ops.old.arena) (table ops.new.arena) domains.old domains.new) }
     ensures left { UnitsLeave (IsOfRoot p.now) ops.old ops.new domains.old domains.new }
     ensures full { result ≡ Err Stop.Full → IsFull ops.new }
-    ensures stopped { result ≡ Err Stop.Full → IsOnWay p.now layout.now (table ops.new.arena) domains.new }
+    ensures stopped { result ≡ Err Stop.Full → AreDomainsOfFirst layout.now (table ops.new.arena) domains.new }
 {
     // What holds of every pool.
     let _ = ops.pool();
@@ -118,7 +119,7 @@ fn take(
     ensures taken { IfOk result (IsTaken p.now layout.now (table ops.old.arena) (table ops.new.arena) c.0 domains.old domains.new) }
     ensures left { UnitsLeave (IsOfRoot p.now) ops.old ops.new domains.old domains.new }
     ensures full { result ≡ Err Stop.Full → IsFull ops.new }
-    ensures stopped { result ≡ Err Stop.Full → IsOnWay p.now layout.now (table ops.new.arena) domains.new }
+    ensures stopped { result ≡ Err Stop.Full → AreDomainsOfFirst layout.now (table ops.new.arena) domains.new }
 {
     ops.begin_unit();
     match attempt(alloc, ops, layout, p, compiled, c, domains) {

@@ -41,13 +41,13 @@ put-requires-clause-held c = held_of_step c.args.ops.now c.step.new.ops (pinned_
 pub returns-in_err-put-in-Narrowed-clause-left : goal.returns-in_err-put-in-Narrowed-clause-left
 returns-in_err-put-in-Narrowed-clause-left c = put_leaves c.args.p.now c.args.layout.now c.args.ops.now c.step.new.ops c.args.compiled.now c.args.c c.args.domains.now c.refs.result.now c.obeys_order.ensures c.requires.known c.requires.compiled c.requires.way c.refs.ensures c.pool.ensures.pinned_live c.step.ensures.stays c.step.ensures.parts c.put.new.ops c.put.new.domains (ap (λ (s : PoolState). s.arena) c.put.ensures.only) c.put.ensures.moved
 
-pub returns-in-Narrowed-clause-left : goal.returns-in-Narrowed-clause-left
-returns-in-Narrowed-clause-left c = put_leaves c.args.p.now c.args.layout.now c.args.ops.now c.step.new.ops c.args.compiled.now c.args.c c.args.domains.now c.refs.result.now c.obeys_order.ensures c.requires.known c.requires.compiled c.requires.way c.refs.ensures c.pool.ensures.pinned_live c.step.ensures.stays c.step.ensures.parts c.put.new.ops c.put.new.domains (ap (λ (s : PoolState). s.arena) c.put.ensures.only) c.put.ensures.moved
+pub returns-in_ok-put-in-Narrowed-clause-left : goal.returns-in_ok-put-in-Narrowed-clause-left
+returns-in_ok-put-in-Narrowed-clause-left c = put_leaves c.args.p.now c.args.layout.now c.args.ops.now c.step.new.ops c.args.compiled.now c.args.c c.args.domains.now c.refs.result.now c.obeys_order.ensures c.requires.known c.requires.compiled c.requires.way c.refs.ensures c.pool.ensures.pinned_live c.step.ensures.stays c.step.ensures.parts c.put.new.ops c.put.new.domains (ap (λ (s : PoolState). s.arena) c.put.ensures.only) c.put.ensures.moved
 
-pub returns-in-Narrowed-clause-taken : goal.returns-in-Narrowed-clause-taken
-returns-in-Narrowed-clause-taken c =
+pub returns-in_ok-put-in-Narrowed-clause-taken : goal.returns-in_ok-put-in-Narrowed-clause-taken
+returns-in_ok-put-in-Narrowed-clause-taken c =
     subst (λ (s : PoolState). IsTaken c.args.p.now c.args.layout.now (table c.args.ops.now.arena) (table s.arena) c.args.c.0 c.args.domains.now c.put.new.domains taken.Narrowed) (sym c.put.ensures.only)
-    (taken_narrowed c.args.p.now c.args.layout.now (table c.args.ops.now.arena) (table c.step.new.ops.arena) c.args.compiled.now c.args.c c.args.domains.now c.obeys_order.ensures c.requires.known c.requires.compiled c.requires.way c.step.ensures.stays.grows c.in_ok-step.field-0 c.refs.result.now c.refs.ensures c.in_ok-step.ensures.answer c.in-Narrowed.kept c.put.new.domains c.in-Narrowed.is (c.in_ok-put.ensures.put ∙ ap (λ kept. put_each kept c.args.domains.now) c.as_slice.ensures.value))
+    (taken_narrowed c.args.p.now c.args.layout.now (table c.args.ops.now.arena) (table c.step.new.ops.arena) c.args.compiled.now c.args.c c.args.domains.now c.obeys_order.ensures c.requires.known c.requires.compiled c.requires.way c.step.ensures.stays.grows c.in_ok-step.field-0 c.refs.result.now c.refs.ensures c.in_ok-step.ensures.answer c.in-Narrowed.kept c.put.new.domains c.in-Narrowed.is (c.in_ok-put-in-Narrowed.ensures.put ∙ ap (λ kept. put_each kept c.args.domains.now) c.as_slice.ensures.value))
 
 pub returns-in-Empty-clause-taken : goal.returns-in-Empty-clause-taken
 returns-in-Empty-clause-taken c = taken_violated c.args.p.now c.args.layout.now (table c.args.ops.now.arena) (table c.step.new.ops.arena) c.args.compiled.now c.args.c c.args.domains.now c.obeys_order.ensures c.requires.known c.requires.compiled c.requires.way c.step.ensures.stays.grows c.in_ok-step.field-0 c.refs.result.now c.refs.ensures c.in_ok-step.ensures.answer c.args.domains.now c.in-Empty.is

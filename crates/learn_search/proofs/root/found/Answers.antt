@@ -6,7 +6,7 @@ use Rattle.pin_lists.proofs.Leaving.{pins_leave, units_then, held_beside}
 use Rattle.propagators.specs.Compiled.{pinned_by, IsCompiled}
 use Rattle.learn_search.specs.Nodes.{IsOfRoot}
 use Rattle.learn_search.specs.Rounds.{IsOnWay}
-use Rattle.learn_search.proofs.Keeping.{held_on}
+use Rattle.learn_search.proofs.Keeping.{held_on, found_leaves}
 use Rattle.learn_search.proofs.Starting.{start_way, start_live, found_rows}
 use Rattle.learn_search.proofs.root.found.Goals as goal
 
@@ -31,3 +31,20 @@ pub narrow-requires-clause-held : goal.narrow-requires-clause-held
 narrow-requires-clause-held c =
     held_on c.args.ops.now c.hold_all.new.ops (pinned_by c.args.compiled.now) [] c.hold_all.new.domains (subst (λ ds. Moves c.args.ops.now c.hold_all.new.ops ds c.hold_all.new.domains) c.requires.empty c.hold_all.ensures.moved)
     (held_beside c.args.ops.now (pinned_by c.args.compiled.now) c.requires.held)
+
+pub returns-in_err-narrow-clause-left : goal.returns-in_err-narrow-clause-left
+returns-in_err-narrow-clause-left c = found_leaves (IsOfRoot c.args.p.now) c.args.ops.now c.hold_all.new.ops c.narrow.new.ops c.args.domains.now c.hold_all.new.domains c.narrow.new.domains c.pool.ensures.pinned_live c.pool.ensures.reduced c.hold_all.ensures.only c.hold_all.ensures.moved c.requires.empty c.narrow.ensures.left
+
+pub returns-then-not-branch-clause-left : goal.returns-then-not-branch-clause-left
+returns-then-not-branch-clause-left c = found_leaves (IsOfRoot c.args.p.now) c.args.ops.now c.hold_all.new.ops c.narrow.new.ops c.args.domains.now c.hold_all.new.domains c.narrow.new.domains c.pool.ensures.pinned_live c.pool.ensures.reduced c.hold_all.ensures.only c.hold_all.ensures.moved c.requires.empty c.narrow.ensures.left
+
+pub returns-in_err-rows-clause-left : goal.returns-in_err-rows-clause-left
+returns-in_err-rows-clause-left c = found_leaves (IsOfRoot c.args.p.now) c.args.ops.now c.hold_all.new.ops c.narrow.new.ops c.args.domains.now c.hold_all.new.domains c.narrow.new.domains c.pool.ensures.pinned_live c.pool.ensures.reduced c.hold_all.ensures.only c.hold_all.ensures.moved c.requires.empty c.narrow.ensures.left
+
+pub returns-clause-left : goal.returns-clause-left
+returns-clause-left c = found_leaves (IsOfRoot c.args.p.now) c.args.ops.now c.hold_all.new.ops c.narrow.new.ops c.args.domains.now c.hold_all.new.domains c.narrow.new.domains c.pool.ensures.pinned_live c.pool.ensures.reduced c.hold_all.ensures.only c.hold_all.ensures.moved c.requires.empty c.narrow.ensures.left
+
+pub returns-clause-means : goal.returns-clause-means
+returns-clause-means c =
+    found_rows c.args.p.now c.args.layout.now (table c.narrow.new.ops.arena) c.narrow.new.domains c.refs.result.now c.in_ok-narrow.field-0 c.in_ok-rows.field-0.items
+    c.obeys_order.ensures c.requires.compiled.kinds c.narrow.ensures.left.reduced c.in_ok-narrow.ensures.fixed c.if-not-branch.false c.refs.ensures c.in_ok-rows.ensures
