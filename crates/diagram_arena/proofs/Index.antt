@@ -59,7 +59,7 @@ refs_agree (Node i) One = refl
 refs_agree (Node i) (Node j) = refl
 
 -- it compares what nodes mean
-derived_is : (n m : Triple) → derived n m ≡ same_triple n m
+pub derived_is : (n m : Triple) → derived n m ≡ same_triple n m
 derived_is n m = λ i. eqb n.bit m.bit && (refs_agree n.lo m.lo i && refs_agree n.hi m.hi i)
 
 pub lookup-derived : (n : Triple) (es : List (Triple × NodeId)) → lookup (derived n) es ≡ lookup (same_triple n) es

@@ -7,3 +7,4 @@ pub mod Growth
 pub mod Kept
 pub mod Index
 pub mod States
+pub mod Marks

@@ -1,14 +1,13 @@
--- Arenas as they are kept: what a look-up, a write and a push mean, and that they keep the invariant.
-use Rattle.std.proofs.Common.{◌≡◌, ℕ, ◌+◌, ◌<◌, ◌≤◌, true, false, cond, List, [], ◌∷◌, ◌++◌, length, get_or, set, Option, Some, None, refl, sym, ◌∙◌, ap, subst, inl, inr, arith, length-append, length-set}
+-- Arenas as they are kept: what a look-up, a write and a new node mean, and that they keep the invariant.
+use Rattle.std.proofs.Common.{◌≡◌, ℕ, ◌+◌, ◌<◌, ◌≤◌, true, false, cond, List, [], set, Option, Some, None, is_some, count_by, refl, sym, ◌∙◌, ap, subst, inl, inr, arith}
 use Rattle.std.specs.Prelude.{IsSome, Result, Ok, Err, IfOk, OnErr}
-use Rattle.std.specs.List.{slice_get}
 use Rattle.std.specs.Option.{option_map}
 use Rattle.std.specs.Map.{lookup}
 use Rattle.std.specs.Ordering.{nat_cmp, eq_by_cmp, is_eq}
 use Rattle.std.specs.FinMap as map
-use Rattle.std.proofs.lemmas.Bool.{cases_lt}
-use Rattle.std.proofs.lemmas.Option.{slice_get_past, slice_get_read, slice_get-get_or}
 use mathlib.Core.Path.{fun_ext}
+use Rattle.slab.specs.Slab.{Slab, get}
+use Rattle.slab.proofs.SlabLemmas.{Updates-with_value}
 use Rattle.diagram_arena.specs.declared.nodes.NodeId.{NodeId}
 use Rattle.diagram_arena.specs.declared.nodes.Ref.{Ref}
 use Rattle.diagram_arena.specs.declared.nodes.Ref.TheVariants as ref
@@ -20,7 +19,7 @@ use Rattle.diagram_arena.specs.Arena.{most_nodes, ArenaState, table, triple, tri
 use Rattle.diagram_arena.specs.Body.{id, state_of, IsIndex, IsKept}
 use Rattle.diagram_arena.proofs.Growth.{Adds, adds_reduced, adds_grows, adds_only, joins_node, grows_self}
 use Rattle.diagram_arena.proofs.Ids.{same_id, cases_id, id_cmp_total, tied_same, tied_other}
-use Rattle.diagram_arena.proofs.Kept.{get-state_of, push-state_of, set-state_of}
+use Rattle.diagram_arena.proofs.Kept.{slot, Puts, get-state_of, len-state_of, put-state_of, changes-state_of, count-set}
 use Rattle.diagram_arena.proofs.Index.{derived, index_adds}
 
 pub table-at : (a : ArenaState) (i : NodeId) → table a i ≡ option_map triple_of (map.get a.nodes i)
@@ -33,27 +32,25 @@ table_from_get a i n is = table-at a i ∙ ap (option_map triple_of) is
 pub table_none : (a : ArenaState) (i : NodeId) → map.get a.nodes i ≡ None → table a i ≡ None
 table_none a i is = table-at a i ∙ ap (option_map triple_of) is
 
-table-state_of : (ns : List Node) (limit : ℕ) (i : NodeId) → table (state_of ns limit) i ≡ option_map triple_of (slice_get ns i.0)
+pub table-state_of : (ns : List (Option Node)) (limit : ℕ) (i : NodeId) → table (state_of ns limit) i ≡ option_map triple_of (slot ns i.0)
 table-state_of ns limit i = table-at (state_of ns limit) i ∙ ap (option_map triple_of) (get-state_of ns limit i)
 
-pub live_within : (ns : List Node) (limit : ℕ) (i : NodeId) → IsLive (table (state_of ns limit)) (ref.Node i) → i.0 < length ns
-live_within ns limit i live =
-    elim (cases_lt i.0 (length ns)) [
-      | inl within ↦ within
-      | inr past ↦
-          let none : table (state_of ns limit) i ≡ None = table-state_of ns limit i ∙ ap (option_map triple_of) (slice_get_past ns i.0 past) in
-          let no : IsSome {T = Triple} None = subst IsSome none live in (cc)
-    ]
+mapped_some : (o : Option Node) → IsSome (option_map triple_of o) → IsSome o
+mapped_some None live = live
+mapped_some (Some n) live = refl
 
-pub within_live : (ns : List Node) (limit : ℕ) (i : NodeId) → i.0 < length ns → IsLive (table (state_of ns limit)) (ref.Node i)
-within_live [] limit i within = absurd (omega arith)
-within_live (n ∷ ns) limit i within =
-    let some : table (state_of (n ∷ ns) limit) i ≡ Some (triple_of (get_or (n ∷ ns) i.0 n)) =
-    table-state_of (n ∷ ns) limit i ∙ ap (option_map triple_of) (slice_get-get_or (n ∷ ns) i.0 n within) in
-    subst IsSome (sym some) refl
+some_mapped : (o : Option Node) → IsSome o → IsSome (option_map triple_of o)
+some_mapped None live = live
+some_mapped (Some n) live = refl
 
-pub get_at : (ns : List Node) (limit : ℕ) (i : NodeId) (n : Node) → IsLive (table (state_of ns limit)) (ref.Node i) → n ≡ get_or ns i.0 n → map.get (state_of ns limit).nodes i ≡ Some n
-get_at ns limit i n live is = get-state_of ns limit i ∙ slice_get_read ns (length ns) i.0 n refl (live_within ns limit i live) is
+pub live_there : (ns : List (Option Node)) (limit : ℕ) (i : NodeId) → IsLive (table (state_of ns limit)) (ref.Node i) → IsSome (slot ns i.0)
+live_there ns limit i live = mapped_some (slot ns i.0) (subst IsSome (table-state_of ns limit i) live)
+
+pub there_live : (ns : List (Option Node)) (limit : ℕ) (i : NodeId) → IsSome (slot ns i.0) → IsLive (table (state_of ns limit)) (ref.Node i)
+there_live ns limit i there = subst IsSome (sym (table-state_of ns limit i)) (some_mapped (slot ns i.0) there)
+
+pub get_at : (ns : List (Option Node)) (limit : ℕ) (i : NodeId) (n : Node) → slot ns i.0 ≡ Some n → map.get (state_of ns limit).nodes i ≡ Some n
+get_at ns limit i n is = get-state_of ns limit i ∙ is
 
 -- a change that keeps bit and children keeps the table
 pub changes_table : (old new : ArenaState) (i : NodeId) (f : Node → Node) → ChangesNode old new i f → ((n : Node) → triple_of (f n) ≡ triple_of n) → table new ≡ table old
@@ -68,25 +65,36 @@ changes_table old new i f changes same = fun_ext (λ j.
     mapped None = refl
     mapped (Some n) = ap Some (same n)
 
+-- a write to the slot that holds m
+pub puts_set : (s : Slab Node) (k : ℕ) (m n : Node) → get s k ≡ Some m → Puts s.slots (set s.slots k (Some n)) k (Some n)
+puts_set s k m n at =
+    let u = Updates-with_value s k n (subst IsSome (sym at) refl) in
+    record { changed = u.changed; others = u.others }
+
+pub changes_set : (s : Slab Node) (limit : ℕ) (i : NodeId) (k : ℕ) (m : Node) (f : Node → Node) → k ≡ i.0 → get s k ≡ Some m
+    → ChangesNode (state_of s.slots limit) (state_of (set s.slots k (Some (f m))) limit) i f
+changes_set s limit i k m f same at =
+    let at' : get s i.0 ≡ Some m = ap (get s) (sym same) ∙ at in
+    subst (λ j. ChangesNode (state_of s.slots limit) (state_of (set s.slots j (Some (f m))) limit) i f) (sym same)
+    (changes-state_of s.slots (set s.slots i.0 (Some (f m))) i m limit f at' (puts_set s i.0 m (f m) at'))
+
+pub len_set : (s : Slab Node) (limit k : ℕ) (m n : Node) → get s k ≡ Some m
+    → map.len (state_of (set s.slots k (Some n)) limit).nodes ≡ map.len (state_of s.slots limit).nodes
+len_set s limit k m n at = len-state_of (set s.slots k (Some n)) limit ∙ count-set s.slots k m n at ∙ sym (len-state_of s.slots limit)
+
 -- a write that keeps bit and children keeps the invariant
-pub kept_set : (ns : List Node) (limit : ℕ) (es : List (Triple × NodeId)) (i : NodeId) (m n : Node) → IsKept ns limit es
-    → IsLive (table (state_of ns limit)) (ref.Node i) → m ≡ get_or ns i.0 m → (f : Node → Node) → f m ≡ n → ((x : Node) → triple_of (f x) ≡ triple_of x)
-    → IsKept (set ns i.0 n) limit es
-kept_set ns limit es i m n kept live is f to same =
-    let at : slice_get ns i.0 ≡ Some m = slice_get_read ns (length ns) i.0 m refl (live_within ns limit i live) is in
-    let t : table (state_of (set ns i.0 n) limit) ≡ table (state_of ns limit) = changes_table _ _ i f (set-state_of ns i n m limit f at to) same in
+pub kept_set : (s : Slab Node) (limit : ℕ) (es : List (Triple × NodeId)) (i : NodeId) (k : ℕ) (m : Node) (f : Node → Node) → k ≡ i.0 → IsKept s.slots limit es
+    → get s k ≡ Some m → ((x : Node) → triple_of (f x) ≡ triple_of x) → IsKept (set s.slots k (Some (f m))) limit es
+kept_set s limit es i k m f same kept at alike =
+    let t : table (state_of (set s.slots k (Some (f m))) limit) ≡ table (state_of s.slots limit) =
+    changes_table _ _ i f (changes_set s limit i k m f same at) alike in
     record {
       reduced = subst IsReduced (sym t) kept.reduced;
-      few = let long : length (set ns i.0 n) ≡ length ns = length-set ns i.0 n in omega (arith, kept.few);
+      few = let many = count-set s.slots k m (f m) at in omega (arith, many, kept.few);
       some = kept.some;
       most = kept.most;
       indexed = subst (λ (u : Table). IsIndex u es) (sym t) kept.indexed;
     }
-
-pub changes_set : (ns : List Node) (limit : ℕ) (i : NodeId) (m n : Node) → IsLive (table (state_of ns limit)) (ref.Node i) → m ≡ get_or ns i.0 m
-    → (f : Node → Node) → f m ≡ n → ChangesNode (state_of ns limit) (state_of (set ns i.0 n) limit) i f
-changes_set ns limit i m n live is f to =
-    set-state_of ns i n m limit f (slice_get_read ns (length ns) i.0 m refl (live_within ns limit i live) is) to
 
 -- an added node in the table
 pub added_keeps : (old new : ArenaState) (bit : ℕ) (lo hi : Ref) (i : NodeId) → AddsNode old new bit lo hi i → KeepsNodes old new
@@ -130,27 +138,29 @@ adds_of old new bit lo hi i adds =
           table-at new j ∙ ap (option_map triple_of) (at j ∙ ap (λ b. cond b (Some n) (map.get old.nodes j)) tie) ∙ sym (table-at old j);
     }
 
--- a push adds a node
-pub adds_push : (ns : List Node) (limit : ℕ) (bit : ℕ) (lo hi : Ref) → AddsNode (state_of ns limit) (state_of (ns ++ new_node (triple bit lo hi) ∷ []) limit) bit lo hi (id (length ns))
-adds_push ns limit bit lo hi = record {
-  free = get-state_of ns limit (id (length ns)) ∙ slice_get_past ns (length ns) (omega arith);
-  added = push-state_of ns (new_node (triple bit lo hi)) limit;
+-- a node in a slot that was empty adds a node
+pub adds_put : (ns ms : List (Option Node)) (limit k : ℕ) (bit : ℕ) (lo hi : Ref) → slot ns k ≡ None → Puts ns ms k (Some (new_node (triple bit lo hi)))
+    → AddsNode (state_of ns limit) (state_of ms limit) bit lo hi (id k)
+adds_put ns ms limit k bit lo hi free puts = record {
+  free = get-state_of ns limit (id k) ∙ free;
+  added = put-state_of ns ms k (new_node (triple bit lo hi)) limit puts;
 }
 
--- a push of a needed node, indexed under its id, keeps the invariant
-pub kept_push : (ns : List Node) (limit : ℕ) (es fs : List (Triple × NodeId)) (n : Triple) → IsKept ns limit es
-    → CanMake (table (state_of ns limit)) n.bit n.lo n.hi → IsNeeded (table (state_of ns limit)) n.bit n.lo n.hi → n.bit < bit_end → length ns < limit
-    → ((m : Triple) → lookup (derived m) fs ≡ cond (derived n m) (Some (id (length ns))) (lookup (derived m) es))
-    → IsKept (ns ++ new_node n ∷ []) limit fs
-kept_push ns limit es fs n kept can needed small room put =
-    let adds : Adds (table (state_of ns limit)) (table (state_of (ns ++ new_node n ∷ []) limit)) (id (length ns)) n =
-    adds_of _ _ n.bit n.lo n.hi (id (length ns)) (adds_push ns limit n.bit n.lo n.hi) in
+-- a needed node in an empty slot, indexed under its id, keeps the invariant
+pub kept_put : (ns ms : List (Option Node)) (limit k : ℕ) (es fs : List (Triple × NodeId)) (n : Triple) → IsKept ns limit es
+    → slot ns k ≡ None → Puts ns ms k (Some (new_node n)) → count_by is_some ms ≡ count_by is_some ns + 1
+    → CanMake (table (state_of ns limit)) n.bit n.lo n.hi → IsNeeded (table (state_of ns limit)) n.bit n.lo n.hi → n.bit < bit_end → count_by is_some ns < limit
+    → ((m : Triple) → lookup (derived m) fs ≡ cond (derived n m) (Some (id k)) (lookup (derived m) es))
+    → IsKept ms limit fs
+kept_put ns ms limit k es fs n kept free puts more can needed small room put =
+    let adds : Adds (table (state_of ns limit)) (table (state_of ms limit)) (id k) n =
+    adds_of _ _ n.bit n.lo n.hi (id k) (adds_put ns ms limit k n.bit n.lo n.hi free puts) in
     record {
-      reduced = adds_reduced _ _ kept.reduced (id (length ns)) n adds small can needed;
-      few = let long : length (ns ++ new_node n ∷ []) ≡ length ns + 1 = length-append ns (new_node n ∷ []) in omega arith;
+      reduced = adds_reduced _ _ kept.reduced (id k) n adds small can needed;
+      few = omega (arith, more, room);
       some = kept.some;
       most = kept.most;
-      indexed = index_adds _ _ (id (length ns)) n es fs adds kept.indexed needed.absent put;
+      indexed = index_adds _ _ (id k) n es fs adds kept.indexed needed.absent put;
     }
 
 no_nodes : (limit : ℕ) (i : NodeId) (n : Triple) → table (state_of [] limit) i ≡ Some n → ⊥
@@ -170,21 +180,6 @@ kept_new limit some most = record {
   most = most;
   indexed = record { sound = λ n i is. (cc); complete = λ i n is. absurd (no_nodes limit i n is) };
 }
-
--- the same, where the pushed list and the id are known by equations
-pub kept_pushed : (ns ms : List Node) (limit k : ℕ) (es fs : List (Triple × NodeId)) (n : Triple) → ms ≡ ns ++ new_node n ∷ [] → k ≡ length ns → IsKept ns limit es
-    → CanMake (table (state_of ns limit)) n.bit n.lo n.hi → IsNeeded (table (state_of ns limit)) n.bit n.lo n.hi → n.bit < bit_end → length ns < limit
-    → ((m : Triple) → lookup (derived m) fs ≡ cond (derived n m) (Some (id k)) (lookup (derived m) es))
-    → IsKept ms limit fs
-kept_pushed ns ms limit k es fs n pushed next kept can needed small room put =
-    subst (λ xs. IsKept xs limit fs) (sym pushed) (kept_push ns limit es fs n kept can needed small room
-    (λ m. put m ∙ ap (λ j. cond (derived n m) (Some (id j)) (lookup (derived m) es)) next))
-
-pub adds_pushed : (ns ms : List Node) (limit k : ℕ) (bit : ℕ) (lo hi : Ref) → ms ≡ ns ++ new_node (triple bit lo hi) ∷ [] → k ≡ length ns
-    → AddsNode (state_of ns limit) (state_of ms limit) bit lo hi (id k)
-adds_pushed ns ms limit k bit lo hi pushed next =
-    subst (λ xs. AddsNode (state_of ns limit) (state_of xs limit) bit lo hi (id k)) (sym pushed)
-    (subst (λ j. AddsNode (state_of ns limit) (state_of (ns ++ new_node (triple bit lo hi) ∷ []) limit) bit lo hi (id j)) (sym next) (adds_push ns limit bit lo hi))
 
 -- what a call means that added a node, or refused
 pub record Added (old new : ArenaState) (bit : ℕ) (lo hi : Ref) (o : Result Ref Stop) : Type 0 where

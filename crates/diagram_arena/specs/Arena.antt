@@ -1,6 +1,6 @@
 -- An arena as its callers see it, and what its calls do to it.
-use Rattle.std.specs.Prelude.{◌≡◌, ◌≢◌, ℕ, ◌<◌, ◌≤◌, Bool, false, cond, Option, Some, None, refl}
-use Rattle.std.specs.Option.{option_map}
+use Rattle.std.specs.Prelude.{◌≡◌, ◌≢◌, ℕ, ◌<◌, ◌≤◌, Bool, true, false, cond, Option, Some, None, refl}
+use Rattle.std.specs.Option.{option_map, option_map_or}
 use Rattle.std.specs.FinMap as map
 use Rattle.std.specs.Coded.{Coded, code_by, coded×, coded_ℕ}
 use Rattle.diagram_arena.specs.contracts.nodes.NodeId as id_row
@@ -112,3 +112,26 @@ pub record ChangesNode (old new : ArenaState) (i : NodeId) (f : Node → Node) :
   pub changed : map.get new.nodes i ≡ option_map f (map.get old.nodes i)
   pub others : (j : NodeId) → j ≢ i → map.get new.nodes j ≡ map.get old.nodes j
   pub limit : new.limit ≡ old.limit
+
+-- whether a node has a mark
+abbrev pub has_mark : ArenaState → NodeId → Bool
+has_mark a i = option_map_or (λ (n : Node). n.mark) (map.get a.nodes i) false
+
+-- a ref that names no node, or a node with a mark
+abbrev pub IsMarked : ArenaState → Ref → Type 0
+IsMarked a ref.Zero = Unit {0}
+IsMarked a ref.One = Unit {0}
+IsMarked a (ref.Node i) = has_mark a i ≡ true
+
+-- the children of each marked node are marked
+abbrev pub MarksReachDown : ArenaState → Type 0
+MarksReachDown a = (i : NodeId) (n : Triple) (v : Bool) → table a i ≡ Some n → has_mark a i ≡ true → IsMarked a (child n v)
+
+-- the node without its mark
+abbrev pub unmarked : Node → Node
+unmarked n = record n { mark = false }
+
+-- a node that has a mark, and nothing in place of another
+abbrev pub if_marked : Option Node → Option Node
+if_marked None = None
+if_marked (Some n) = cond n.mark (Some n) None

@@ -3,3 +3,4 @@ pub mod Part
 pub mod Reach
 pub mod Arena
 pub mod Body
+pub mod Hashing

@@ -1,13 +1,16 @@
 //! The arena: each node is made once, and found again by its bit and its children.
 ghost use Rattle.std.specs.Prelude.{◌≡◌, ◌≢◌, ◌<◌, ◌≤◌, ◌↔◌, IsTrue, IfOk, OnErr, IfSome, IfNone, IsSome, refl};
+ghost use Rattle.std.specs.Option.{option_map};
 ghost use Rattle.std.specs.FinMap as map;
 ghost use Rattle.diagram_arena.specs.declared.nodes.NodeId.{NodeId};
 ghost use Rattle.diagram_arena.specs.declared.nodes.Node.{Node};
 ghost use Rattle.diagram_arena.specs.Table.{Word, has, IsLive, IsReduced};
 ghost use Rattle.diagram_arena.specs.Reach.{Bits, ReachesOnly, DependsOn};
-ghost use Rattle.diagram_arena.specs.Arena.{most_nodes, table, tag_of, triple_of, CanMake, IsNeeded, AddsNode, IsMade, KeepsNodes, NewAreUntagged, Grows, Joins, Stands, ChangesNode};
+ghost use Rattle.diagram_arena.specs.Arena.{most_nodes, table, tag_of, triple_of, CanMake, IsNeeded, AddsNode, IsMade, KeepsNodes, NewAreUntagged, Grows, Joins, Stands, ChangesNode, MarksReachDown, unmarked, if_marked};
+ghost use Rattle.diagram_arena.specs.Body.{marked_at};
 
 use crate::nodes::{Node, NodeId, Ref, Stop, Triple};
+use slab::Slab;
 use std::alloc::Global;
 use std::collections::HashMap;
 use std::marker::Model;
@@ -20,7 +23,7 @@ pub const MAX_LIMIT: u32 = 20_000_000;
 /// where they denote the same set of words.
 #[derive(Drop)]
 pub struct Arena {
-    nodes: Vec<Node>,
+    nodes: Slab<Node>,
     ids: HashMap<Triple, NodeId>,
     limit: u32,
 }
@@ -48,7 +51,7 @@ impl Arena {
         ensures reduced { IsReduced (table result) }
     {
         Arena {
-            nodes: Vec::new(alloc),
+            nodes: Slab::new(alloc),
             ids: HashMap::new(alloc),
             limit,
         }
@@ -112,15 +115,16 @@ impl Arena {
             return Err(Stop::Full);
         }
         self.nodes.reserve(1)?;
-        let id = NodeId(self.nodes.len());
+        let id = match NodeId::of_key(self.nodes.vacant_key()) {
+            Some(id) => id,
+            None => return Err(Stop::Memory),
+        };
         match self.ids.insert(triple, id) {
             Ok(_) => {}
             Err(_) => return Err(Stop::Memory),
         }
-        match self.nodes.push(Node::new(triple)) {
-            Ok(()) => Ok(Ref::Node(id)),
-            Err(_) => unreachable!(),
-        }
+        self.nodes.insert_reserved(Node::new(triple));
+        Ok(Ref::Node(id))
     }
 
     /// The node under `id`.
@@ -130,7 +134,7 @@ impl Arena {
         ensures stands { Stands (table self.now) id (triple_of result.now) }
         ensures reduced { IsReduced (table self.now) }
     {
-        &self.nodes[id.0]
+        &self.nodes[id.key()]
     }
 
     /// How many nodes there are.
@@ -165,7 +169,7 @@ impl Arena {
         match r {
             Ref::Zero => true,
             Ref::One => true,
-            Ref::Node(id) => id.0 < self.nodes.len(),
+            Ref::Node(id) => self.nodes.contains(id.key()),
         }
     }
 
@@ -198,7 +202,7 @@ impl Arena {
         requires { IsLive (table self.now) (Ref.Node id) }
         ensures { tag_of self.now id ≡ Some result }
     {
-        self.nodes[id.0].tag
+        self.nodes[id.key()].tag
     }
 
     /// Gives the node under `id` this tag.
@@ -208,7 +212,7 @@ impl Arena {
         ensures table { table self.new ≡ table self.old }
         ensures count { map.len self.new.nodes ≡ map.len self.old.nodes }
     {
-        let tagged = &mut self.nodes[id.0];
+        let tagged = &mut self.nodes[id.key()];
         tagged.tag = tag;
     }
 
@@ -219,8 +223,44 @@ impl Arena {
         ensures table { table self.new ≡ table self.old }
         ensures count { map.len self.new.nodes ≡ map.len self.old.nodes }
     {
-        let marked = &mut self.nodes[id.0];
+        let marked = &mut self.nodes[id.key()];
         marked.mark = mark;
+    }
+
+    /// Clears the mark of every node, in time linear in the most nodes that there were.
+    pub fn clear_marks(&mut self)
+        ensures cleared { (i : NodeId) → map.get self.new.nodes i ≡ option_map unmarked (map.get self.old.nodes i) }
+        ensures table { table self.new ≡ table self.old }
+        ensures count { map.len self.new.nodes ≡ map.len self.old.nodes }
+        ensures limit { self.new.limit ≡ self.old.limit }
+    {
+        self.nodes.retain(|_, node| {
+            node.mark = false;
+            true
+        });
+    }
+
+    /// Removes every node that has no mark, in time linear in the most nodes that there were. The children of
+    /// a marked node must be marked. The id of a removed node may be given to a later one.
+    pub fn drop_unmarked(&mut self)
+        requires { MarksReachDown self.old }
+        ensures kept { (i : NodeId) → map.get self.new.nodes i ≡ if_marked (map.get self.old.nodes i) }
+        ensures limit { self.new.limit ≡ self.old.limit }
+        ensures reduced { IsReduced (table self.new) }
+        ensures meaning { Grows (table self.new) (table self.old) }
+    {
+        let nodes = &self.nodes;
+        self.ids.retain(|_, id| is_marked(nodes, *id));
+        self.nodes.retain(|_, node| node.mark);
+    }
+}
+
+fn is_marked(nodes: &Slab<Node>, id: NodeId) -> bool
+    ensures { result ≡ marked_at nodes.now.slots id.0 }
+{
+    match nodes.get(id.key()) {
+        Some(node) => node.mark,
+        None => false,
     }
 }
 

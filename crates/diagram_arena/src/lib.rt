@@ -8,6 +8,3 @@ mod nodes;
 pub use hash_consing::{Arena, MAX_LIMIT};
 pub use laws::{ids_are_in_order, parts_of_parts, reduced_tables, zero_and_one};
 pub use nodes::{Node, NodeId, Ref, Stop, Triple};
-
-#[cfg(test)]
-mod tests;

@@ -1,19 +1,67 @@
 //! Nodes, and the names by which they are reached.
-ghost use Rattle.std.specs.Prelude.{◌≡◌, false};
+ghost use Rattle.std.specs.Prelude.{◌≡◌, false, IfSome};
 
 use std::alloc::AllocError;
 use std::convert::From;
+use std::hash::{Hash, Hasher};
 
 /// The name of a node of one arena. It says nothing of when the node was made.
 #[derive(Clone, Copy, PartialEq, Eq, PartialOrd, Ord, Hash, Debug)]
-pub struct NodeId(pub(crate) usize);
+pub struct NodeId(pub(crate) u32);
+
+impl NodeId {
+    /// The id of the node under this key of the slab, where the key fits into an id.
+    pub(crate) fn of_key(key: usize) -> Option<NodeId>
+        ensures { IfSome result (λ i. i.0 ≡ key) }
+    {
+        match u32::try_from(key) {
+            Ok(key) => Some(NodeId(key)),
+            Err(_) => None,
+        }
+    }
+
+    /// The key of the node in the slab.
+    pub(crate) fn key(self) -> usize
+        ensures { result ≡ self.0 }
+    {
+        self.0 as usize
+    }
+}
 
 /// A set of words: the empty one, that of all words, or that of a node.
-#[derive(Clone, Copy, PartialEq, Eq, PartialOrd, Ord, Hash, Debug)]
+#[derive(Clone, Copy, PartialEq, Eq, PartialOrd, Ord, Debug)]
 pub enum Ref {
     Zero,
     One,
     Node(NodeId),
+}
+
+impl Ref {
+    ghost use Rattle.diagram_arena.specs.Hashing.{number};
+
+    /// One number for each ref, to be hashed.
+    fn number(&self) -> u64
+        ensures { result ≡ number self.now }
+    {
+        match self {
+            Ref::Zero => 0,
+            Ref::One => 1,
+            Ref::Node(id) => u64::from(id.0) + 2,
+        }
+    }
+}
+
+// A ref is hashed as one number, where a derived impl would hash its variant and its id.
+impl Hash for Ref {
+    ghost use Rattle.diagram_arena.specs.Hashing.{ref_input, ref_respects};
+
+    ghost hash_input = { ref_input };
+
+    ghost respects_eq = { ref_respects };
+
+    fn hash<H: Hasher>(&self, state: &mut H) {
+        state.write_u64(self.number());
+    }
 }
 
 /// What a node means: the words whose `bit` is false and that lie in `lo`, and those whose `bit` is

@@ -8,4 +8,9 @@ pub mod Results
 pub mod Insides
 pub mod Projections
 pub mod Kept
+pub mod Meant
+pub mod Moves
+pub mod Same
+pub mod Emptying
+pub mod Going
 pub mod Projecting

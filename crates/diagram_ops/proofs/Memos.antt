@@ -1,6 +1,9 @@
 -- The memo: its entries stay right in a table that grows, and one entry more is right too.
-use Rattle.std.proofs.Common.{◌≡◌, Bool, true, false, eqb, cond, ◌&&◌, List, [], Option, Some, None, refl, sym, ◌∙◌, ap, subst, inl, inr}
-use Rattle.std.specs.Prelude.{IfSome}
+use Rattle.std.proofs.Common.{◌≡◌, Bool, true, false, eqb, cond, ◌&&◌, List, [], Option, Some, None, Result, Ok, Err, Contains, refl, sym, ◌∙◌, ap, subst, inl, inr}
+use Rattle.std.specs.Prelude.{IfSome, OnOk, OnErr}
+use Rattle.lru.specs.LruCache.{LruCache, lru_cache, put_entries}
+use Rattle.lru.proofs.CallerLemmas.{Contains-put_entries, Contains-lookup}
+use Rattle.lru.proofs.Splits.{Contains-nil}
 use mathlib.Core.Bool.{beq}
 use Rattle.std.specs.Map.{lookup}
 use Rattle.std.proofs.lemmas.Bool.{cases_Bool, eqb-true, and_parts}
@@ -16,7 +19,7 @@ use Rattle.diagram_ops.specs.declared.question.Question.{Question}
 use Rattle.diagram_ops.specs.declared.question.Question.TheVariants.{Combine, Restrict}
 use Rattle.diagram_ops.specs.contracts.question.OpPartialEq.TheImpl.{eq-value as of_ops}
 use Rattle.diagram_ops.specs.contracts.question.QuestionPartialEq.TheImpl.{eq-value}
-use Rattle.diagram_ops.specs.Steps.{IsAnswer}
+use Rattle.diagram_ops.specs.Steps.{IsAnswer, AreAnswers}
 use Rattle.diagram_ops.specs.Memo.{IsMemo}
 use Rattle.diagram_ops.proofs.Steps.{answer_grows}
 
@@ -70,12 +73,12 @@ question_true (Restrict f b v) (Restrict h c w) e =
     let z : v ≡ w = bool_true v w rest.1 in
     λ i. Restrict (x i) (y i) (z i)
 
-pub memo_grows : (t u : Table) (es : List (Question × Ref)) → Grows t u → IsMemo t es → IsMemo u es
-memo_grows t u es grown memo q r is = answer_grows t u grown q r (memo q r is)
+pub answers_grow : (t u : Table) (es : List (Question × Ref)) → Grows t u → AreAnswers t es → AreAnswers u es
+answers_grow t u es grown known q r is = answer_grows t u grown q r (known q r is)
 
-pub memo_puts : (t : Table) (es fs : List (Question × Ref)) (p : Question) (s : Ref) → IsMemo t es → IsAnswer t p s
-    → ((q : Question) → lookup (derived q) fs ≡ cond (derived p q) (Some s) (lookup (derived q) es)) → IsMemo t fs
-memo_puts t es fs p s memo answer put q r is =
+pub answers_put : (t : Table) (es fs : List (Question × Ref)) (p : Question) (s : Ref) → AreAnswers t es → IsAnswer t p s
+    → ((q : Question) → lookup (derived q) fs ≡ cond (derived p q) (Some s) (lookup (derived q) es)) → AreAnswers t fs
+answers_put t es fs p s known answer put q r is =
     elim (cases_Bool (derived p q)) [
       | inl same ↦
           let here : lookup (derived q) fs ≡ Some s = put q ∙ ap (λ b. cond b (Some s) (lookup (derived q) es)) same in
@@ -84,12 +87,34 @@ memo_puts t es fs p s memo answer put q r is =
           subst (λ x. IsAnswer t x r) (question_true p q same) (subst (IsAnswer t p) e' answer)
       | inr other ↦
           let there : lookup (derived q) fs ≡ lookup (derived q) es = put q ∙ ap (λ b. cond b (Some s) (lookup (derived q) es)) other in
-          memo q r (sym there ∙ is)
+          known q r (sym there ∙ is)
+    ]
+
+pub no_answers : (t : Table) (es : List (Question × Ref)) → es ≡ [] → AreAnswers t es
+no_answers t es e = subst (AreAnswers t) (sym e) (λ q r is. let no : None ≡ Some r = is in absurd (cc))
+
+pub memo_grows : (t u : Table) (es : List (Question × Ref)) → Grows t u → IsMemo t es → IsMemo u es
+memo_grows t u es grown memo q r is = answer_grows t u grown q r (memo q r is)
+
+-- what is found in the memo is right
+pub recalled : (t : Table) (es : List (Question × Ref)) (q : Question) (o : Option Ref) → IsMemo t es → o ≡ lookup (derived q) es → IfSome o (IsAnswer t q)
+recalled t es q None memo is = tt
+recalled t es q (Some r) memo is =
+    let found = Contains-lookup (derived q) es r (sym is) in
+    subst (λ x. IsAnswer t x r) (sym (question_true q found.0 found.2)) (memo found.0 r found.1)
+
+-- one answer more, or a memo that is as it was
+pub memo_puts : {E : Type 0} (t : Table) (old new : LruCache Question Ref) (p : Question) (s : Ref) (o : Result (Option Ref) E) → IsMemo t old.entries → IsAnswer t p s
+    → OnOk o (new ≡ lru_cache (put_entries derived old p s) old.cap) → OnErr o (new ≡ old) → IsMemo t new.entries
+memo_puts t old new p s (Err e) memo answer put kept q r is = memo q r (subst (λ (m : LruCache Question Ref). Contains {X = Question × Ref} m.entries (q, r)) kept is)
+memo_puts t old new p s (Ok x) memo answer put kept q r is =
+    let there : Contains {X = Question × Ref} (put_entries derived old p s) (q, r) = subst (λ (m : LruCache Question Ref). Contains {X = Question × Ref} m.entries (q, r)) put is in
+    elim (Contains-put_entries derived old p s (q, r) there) [
+      | inl was ↦ memo q r was
+      | inr here ↦
+          let same : q ≡ p = elim here.1 [ inl e ↦ e | inr was ↦ sym (question_true p q was.2) ] in
+          subst (λ x. IsAnswer t x r) (sym same) (subst (IsAnswer t p) (sym here.0) answer)
     ]
 
 pub memo_empty : (t : Table) → IsMemo t []
-memo_empty t q r is = let no : None ≡ Some r = is in absurd (cc)
-
-pub recalled : (t : Table) (es : List (Question × Ref)) (q : Question) (o : Option Ref) → IsMemo t es → o ≡ lookup (derived q) es → IfSome o (IsAnswer t q)
-recalled t es q None memo is = tt
-recalled t es q (Some r) memo is = memo q r (sym is)
+memo_empty t q r is = absurd (Contains-nil {X = Question × Ref} (q, r) is)

@@ -1,53 +1,26 @@
 -- Projection, over plain sets of words and over refs of one table.
-use Rattle.std.proofs.Common.{◌≡◌, ◌≢◌, ℕ, ◌<◌, ◌≤◌, Bool, true, false, ◌&&◌, ◌||◌, cond, eqb, List, Some, refl, sym, ◌∙◌, ap, subst, inl, inr, ◌⊎◌, arith}
+use Rattle.std.proofs.Common.{◌≡◌, ◌≢◌, ℕ, ◌<◌, ◌≤◌, Bool, true, false, ◌&&◌, ◌||◌, cond, eqb, refl, sym, ◌∙◌, ap, inl, inr, ◌⊎◌, arith}
 use Rattle.std.proofs.lemmas.Bool.{cases_Bool, cases_eq, ne_eqb}
 use Rattle.std.proofs.lemmas.Bool.Decides.{nat_tests}
-use Rattle.diagram_arena.specs.declared.nodes.NodeId.{NodeId}
-use Rattle.diagram_arena.specs.declared.nodes.Ref.{Ref}
-use Rattle.diagram_arena.specs.declared.nodes.Ref.TheVariants.{Zero, One, Node}
-use Rattle.diagram_arena.specs.declared.nodes.Triple.{Triple}
-use Rattle.diagram_arena.specs.Table.{Word, Words, Table, child, has, IsLive, depth, IsReduced}
+use Rattle.diagram_arena.specs.Table.{Word, Words}
 use Rattle.diagram_arena.specs.Part.{with_bit, with_front, IsPartOf}
-use Rattle.diagram_arena.specs.Reach.{Bits, DependsOn, among}
-use Rattle.diagram_arena.specs.Arena.{triple, Grows}
-use Rattle.diagram_arena.proofs.Meaning.{has-zero, has-one, depth-one, depth-at, depth_within}
-use Rattle.diagram_arena.proofs.Canonical.{has-agree, has-above}
+use Rattle.diagram_arena.specs.Reach.{Bits, DependsOn}
 use Rattle.diagram_arena.proofs.Parts.{part_of_part}
 use Rattle.diagram_ops.specs.Words.{joined, either, common, Agree, IsProjection, IsPartOfProjection}
-use Rattle.diagram_ops.specs.Steps.{IsNode, IsSplit, sides_joined, IsProjected}
-use Rattle.diagram_ops.proofs.Insides.{has_word}
+use Rattle.diagram_ops.specs.Steps.{sides_joined}
 
--- a set that has no word, and one that has every word, are their own projections
-pub empty_projection : (bits : Bits) (V : Words) → ((w : Word) → V w ≡ false) → IsProjection bits V V
-empty_projection bits V none = record {
-  sound = λ w is. let no : false ≡ true = sym (none w) ∙ is in absurd (cc);
-  whole = λ w u is agree. let no : false ≡ true = sym (none u) ∙ is in absurd (cc);
-}
-
+-- a set that has every word is its own projection
 pub full_projection : (bits : Bits) (V : Words) → ((w : Word) → V w ≡ true) → IsProjection bits V V
 full_projection bits V all = record {
   sound = λ w is. (w, is, (λ b on. refl));
   whole = λ w u is agree. all w;
 }
 
-front-below : (i b : ℕ) (p w : Word) → b < i → with_front i p w b ≡ p b
+pub front-below : (i b : ℕ) (p w : Word) → b < i → with_front i p w b ≡ p b
 front-below i b p w below = grind (arith, nat_tests)
 
-front-above : (i b : ℕ) (p w : Word) → i ≤ b → with_front i p w b ≡ w b
+pub front-above : (i b : ℕ) (p w : Word) → i ≤ b → with_front i p w b ≡ w b
 front-above i b p w above = grind (arith, nat_tests)
-
--- where every bit that is kept lies above a ref that has a word, all words are in the projection
-pub free_projection : (t : Table) → IsReduced t → (r : Ref) → IsLive t r → IsNode r → (bits : Bits) → ((b : ℕ) → bits b ≡ true → b < depth t r) → IsProjection bits (has t r) (has t One)
-free_projection t ok r live node bits below =
-    elim (has_word t ok r live) [
-      | inl e ↦ absurd (subst IsNode e node)
-      | inr (u, is) ↦ record {
-        sound = λ w on.
-            let v : Word = with_front (depth t r) w u in
-            (v, has-agree t ok r live v u (λ b far. front-above (depth t r) b w u far) ∙ is, (λ b kept. sym (front-below (depth t r) b w u (below b kept))));
-        whole = λ w v is' agree. has-one t w;
-      }
-    ]
 
 -- both sides of a set at a bit: neither reads the bit
 pub record AreSides (V : Words) (b : ℕ) (S : Bool → Words) : Type 0 where
@@ -70,14 +43,14 @@ kept_projection bits b on V S P sides each = record {
       kept_words b P w ∙ (each (w b)).whole w u (ap (λ v. S v u) (sym same) ∙ sym (sides.words u) ∙ is) agree;
 }
 
-bit-here : (b : ℕ) (v : Bool) (w : Word) → with_bit w b v b ≡ v
+pub bit-here : (b : ℕ) (v : Bool) (w : Word) → with_bit w b v b ≡ v
 bit-here b v w = grind (arith, nat_tests)
 
 bit-other : (b c : ℕ) (v : Bool) (w : Word) → c ≢ b → with_bit w b v c ≡ w c
 bit-other b c v w ne = let e : eqb c b ≡ false = ne_eqb c b ne in rw e refl
 
 -- a word may be given either value of a bit that is not kept
-free_agree : (bits : Bits) (b : ℕ) → bits b ≡ false → (w u : Word) (v : Bool) → Agree bits w u → Agree bits w (with_bit u b v)
+pub free_agree : (bits : Bits) (b : ℕ) → bits b ≡ false → (w u : Word) (v : Bool) → Agree bits w u → Agree bits w (with_bit u b v)
 free_agree bits b off w u v agree c on =
     elim (cases_eq c b) [
       | inl e ↦ let no : true ≡ false = sym on ∙ ap bits e ∙ off in absurd (cc)
@@ -124,21 +97,6 @@ sides_projection bits b V S P sides each =
       | inr off ↦ same_projection bits V V _ _ (λ w. refl) (λ w. ap (λ k. cond k (joined b (P false) (P true) w) (either (P false) (P true) w)) off) (union_projection bits b off V S P sides each)
     ]
 
--- the sides of a ref are the sides of its words
-pub split_sides : (t : Table) → IsReduced t → (f : Ref) (bit : ℕ) (lo hi : Ref) → IsSplit t f bit lo hi → AreSides (has t f) bit (λ v. has t (child (triple bit lo hi) v))
-split_sides t ok f bit lo hi is = record {
-  words = is.words;
-  free = λ v x w. has-above t ok _ (is.live v) bit (is.deeper v) w x;
-}
-
-pub projected_grows : (t u : Table) → Grows t u → (keep : List ℕ) (f r : Ref) → IsProjected t keep f r → IsProjected u keep f r
-projected_grows t u grown keep f r is = record {
-  given = grown.live f is.given;
-  live = grown.live r is.live;
-  deep = let f_same = grown.depths f is.given in let r_same = grown.depths r is.live in let deep = is.deep in omega (arith, f_same, r_same, deep);
-  words = same_projection (among keep) (has t f) (has u f) (has t r) (has u r) (grown.words f is.given) (grown.words r is.live) is.words;
-}
-
 pub projected_part : (bits : Bits) (U V W : Words) → IsPartOfProjection bits U V → IsPartOf V W → IsPartOfProjection bits U W
 projected_part bits U V W is part = record {
   part = is.part;
@@ -181,34 +139,3 @@ one_way bits keep V P depends is w u agree on =
 pub projection_depends : (bits keep : Bits) (V P : Words) → DependsOn bits V → IsProjection keep V P → DependsOn (common bits keep) P
 projection_depends bits keep V P depends is w u agree =
     both_ways (P w) (P u) (one_way bits keep V P depends is w u agree) (one_way bits keep V P depends is u w (λ b on. sym (agree b on)))
-
--- Zero and One are their own projections
-pub projects_zero : (t : Table) (keep : List ℕ) (f : Ref) → f ≡ Zero → IsProjected t keep f f
-projects_zero t keep f e = subst (λ s. IsProjected t keep s s) (sym e) (record {
-  given = tt;
-  live = tt;
-  deep = omega arith;
-  words = empty_projection (among keep) (has t Zero) (has-zero t);
-})
-
-pub projects_one : (t : Table) (keep : List ℕ) (f : Ref) → f ≡ One → IsProjected t keep f f
-projects_one t keep f e = subst (λ s. IsProjected t keep s s) (sym e) (record {
-  given = tt;
-  live = tt;
-  deep = omega arith;
-  words = full_projection (among keep) (has t One) (has-one t);
-})
-
--- One is the projection of a node that asks only bits beyond those that are kept
-pub projects_free : (t : Table) → IsReduced t → (keep : List ℕ) (f : Ref) (i : NodeId) (n : Triple) → IsLive t f → f ≡ Node i → t i ≡ Some n
-    → ((b : ℕ) → among keep b ≡ true → b < n.bit) → IsProjected t keep f One
-projects_free t ok keep f i n live e is below =
-    let at : depth t f ≡ n.bit = ap (depth t) e ∙ depth-at t i n is in
-    let one = depth-one t in
-    let within = depth_within t ok f live in
-    record {
-      given = live;
-      live = tt;
-      deep = omega (arith, one, within);
-      words = free_projection t ok f live (subst IsNode (sym e) tt) (among keep) (λ b on. let far = below b on in omega (arith, at, far));
-    }

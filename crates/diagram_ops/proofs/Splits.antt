@@ -7,7 +7,7 @@ use Rattle.diagram_arena.specs.declared.nodes.Ref.{Ref}
 use Rattle.diagram_arena.specs.declared.nodes.Ref.TheVariants.{Zero, One, Node}
 use Rattle.diagram_arena.specs.declared.nodes.Triple.{Triple}
 use Rattle.diagram_arena.specs.Table.{Word, Table, child, bit_end, has, IsLive, depth, IsReduced}
-use Rattle.diagram_arena.specs.Part.{with_bit, with_front, IsPartOf}
+use Rattle.diagram_arena.specs.Part.{with_bit, with_front}
 use Rattle.diagram_arena.specs.Arena.{triple}
 use Rattle.diagram_arena.proofs.Meaning.{bit_end_is, has-zero, has-one, depth-zero, depth-one, depth-at, has-at}
 use Rattle.diagram_arena.proofs.Canonical.{has-agree}
@@ -22,7 +22,7 @@ front-beyond : (a b : ℕ) (v : Bool) (w : Word) → a < b → with_front (a + 1
 front-beyond a b v w far = grind (arith, nat_tests)
 
 -- a ref reads no bit above its own
-has-front : (t : Table) → IsReduced t → (r : Ref) → IsLive t r → (bit : ℕ) → bit < depth t r → (v : Bool) (w : Word) → has t r (with_front (bit + 1) (λ _. v) w) ≡ has t r w
+pub has-front : (t : Table) → IsReduced t → (r : Ref) → IsLive t r → (bit : ℕ) → bit < depth t r → (v : Bool) (w : Word) → has t r (with_front (bit + 1) (λ _. v) w) ≡ has t r w
 has-front t ok r live bit above v w = has-agree t ok r live _ w (λ b far. front-beyond bit b v w (omega (arith, above, far)))
 
 both_sides : (bit : ℕ) (r : Ref) (v : Bool) → child (triple bit r r) v ≡ r
@@ -74,14 +74,6 @@ split_below t ok r bit i n live e at above differ =
     let level : depth t r ≡ n.bit = ap (depth t) e ∙ depth-at t i n at in
     let below : bit < depth t r = omega (arith, above, level, differ) in
     subst (λ s. IsSplit t r bit s s) e (split_above t ok r live bit below)
-
--- a side is a part of the ref's set
-pub side_is_part : (t : Table) (f : Ref) (bit : ℕ) (lo hi : Ref) → IsSplit t f bit lo hi → (v : Bool) → IsPartOf (has t (child (triple bit lo hi) v)) (has t f)
-side_is_part t f bit lo hi is v = record {
-  from = bit + 1;
-  front = λ _. v;
-  same = is.front v;
-}
 
 -- a step of an operation is a step of both refs
 combine_live : (t : Table) (op : Op) (f g : Ref) (bit : ℕ) (f_lo f_hi g_lo g_hi : Ref) → IsSplit t f bit f_lo f_hi → IsSplit t g bit g_lo g_hi → (v : Bool)
@@ -141,3 +133,18 @@ restrict_step t f bit at value lo hi below is = record {
   front = λ v w. restrict_asked t bit at value lo hi v w ∙ is.front v (with_bit w at value)
       ∙ ap (has t f) (fun_ext (λ b. front-with_bit bit at value v w b below));
 }
+
+-- Zero and One ask no bit
+pub zero_above : (t : Table) (r : Ref) (bit : ℕ) → r ≡ Zero → bit < 2 ^ 32 → bit ≤ depth t r
+zero_above t r bit e small =
+    let same = ap (depth t) e in
+    let at : depth t Zero ≡ bit_end = depth-zero t in
+    let end : bit_end ≡ 2 ^ 32 = bit_end_is in
+    omega (arith, same, at, end, small)
+
+pub one_above : (t : Table) (r : Ref) (bit : ℕ) → r ≡ One → bit < 2 ^ 32 → bit ≤ depth t r
+one_above t r bit e small =
+    let same = ap (depth t) e in
+    let at : depth t One ≡ bit_end = depth-one t in
+    let end : bit_end ≡ 2 ^ 32 = bit_end_is in
+    omega (arith, same, at, end, small)

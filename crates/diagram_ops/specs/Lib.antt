@@ -1,3 +1,5 @@
 pub mod Words
 pub mod Steps
+pub mod Meanings
+pub mod Work
 pub mod Memo

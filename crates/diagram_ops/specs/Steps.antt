@@ -5,7 +5,6 @@ use Rattle.diagram_arena.specs.declared.nodes.Ref.{Ref}
 use Rattle.diagram_arena.specs.declared.nodes.Ref.TheVariants as ref
 use Rattle.diagram_arena.specs.declared.nodes.Stop.{Stop}
 use Rattle.diagram_arena.specs.declared.nodes.Stop.TheVariants.{Full}
-use Rattle.diagram_arena.specs.contracts.nodes.RefPartialEq.TheImpl.{eq-value as ref_eq}
 use Rattle.diagram_arena.specs.Table.{Word, Words, Table, child, has, IsLive, depth, IsReduced}
 use Rattle.diagram_arena.specs.Part.{with_front}
 use Rattle.diagram_arena.specs.Reach.{Bits, among}
@@ -15,8 +14,9 @@ use Rattle.diagram_ops.specs.declared.question.Op.{Op}
 use Rattle.diagram_ops.specs.declared.question.Op.TheVariants.{And, Or, Diff}
 use Rattle.diagram_ops.specs.declared.question.Question.{Question}
 use Rattle.diagram_ops.specs.declared.question.Question.TheVariants.{Combine, Restrict}
+use Rattle.diagram_ops.specs.contracts.question.QuestionPartialEq.TheImpl.{eq-value as same_question}
 use Rattle.node_reclaim.specs.Growth.{IsFull, Stays, NewArePartsOf}
-use Rattle.diagram_ops.specs.Words.{joined, either, restricted, IsProjection, Denotes, NewArePartsOfProjections}
+use Rattle.diagram_ops.specs.Words.{joined, either, restricted, Denotes}
 
 -- an operation at one word
 abbrev pub combine : Op → Bool → Bool → Bool
@@ -48,6 +48,10 @@ pub record IsAnswer (t : Table) (q : Question) (r : Ref) : Type 0 where
   pub live : IsLive t r
   pub deep : first t q ≤ depth t r
   pub words : (w : Word) → has t r w ≡ asked t q w
+
+-- each answer that is found is right
+abbrev pub AreAnswers : Table → List (Question × Ref) → Type 0
+AreAnswers t entries = (q : Question) (r : Ref) → lookup (same_question.it q) entries ≡ Some r → IsAnswer t q r
 
 -- the result where no node need be looked at
 abbrev pub shortcut_of : Op → Ref → Ref → Option Ref
@@ -122,22 +126,3 @@ pub record SidesJoined (old new : PoolState) (keep : List ℕ) (bit : ℕ) (lo h
   pub stays : Stays old new
   pub full : result ≡ Err Full → IsFull new
   pub parts : NewArePartsOf (table old.arena) (table new.arena) (sides_joined (among keep) bit (has (table old.arena) lo) (has (table old.arena) hi))
-
--- r is the projection of f, in one table
-pub record IsProjected (t : Table) (keep : List ℕ) (f r : Ref) : Type 0 where
-  pub given : IsLive t f
-  pub live : IsLive t r
-  pub deep : depth t f ≤ depth t r
-  pub words : IsProjection (among keep) (has t f) (has t r)
-
--- each entry is the projection of its ref
-abbrev pub AreProjected : Table → List ℕ → List (Ref × Ref) → Type 0
-AreProjected t keep entries = (f r : Ref) → lookup (ref_eq.it f) entries ≡ Some r → IsProjected t keep f r
-
--- what a projection leaves
-pub record Projected (old new : PoolState) (keep : List ℕ) (f : Ref) (result : Result Ref Stop) : Type 0 where
-  pub reduced : IsReduced (table old.arena)
-  pub answer : IfOk result (IsProjected (table new.arena) keep f)
-  pub stays : Stays old new
-  pub full : result ≡ Err Full → IsFull new
-  pub parts : NewArePartsOfProjections (table old.arena) (table new.arena) (among keep) (has (table old.arena) f)

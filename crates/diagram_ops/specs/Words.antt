@@ -1,16 +1,12 @@
 -- The operations on sets of words, and what a call that makes nodes leaves.
-use Rattle.std.specs.Prelude.{◌≡◌, ℕ, ◌≤◌, ◌==◌, Bool, true, false, not, ◌&&◌, ◌||◌, if◌then◌else◌, List, All, None, Some}
+use Rattle.std.specs.Prelude.{◌≡◌, ℕ, ◌≤◌, ◌==◌, Bool, true, false, not, ◌&&◌, ◌||◌, if◌then◌else◌, List, All, None}
 use Rattle.std.specs.List.{list_all}
-use Rattle.std.specs.FinMap as map
 use Rattle.diagram_arena.specs.declared.nodes.NodeId.{NodeId}
-use Rattle.diagram_arena.specs.declared.nodes.Node.{Node as Stored}
 use Rattle.diagram_arena.specs.declared.nodes.Ref.{Ref}
 use Rattle.diagram_arena.specs.declared.nodes.Ref.TheVariants.{Node}
-use Rattle.diagram_arena.specs.Table.{Word, Words, Table, has, IsLive, depth, IsReduced}
+use Rattle.diagram_arena.specs.Table.{Word, Words, Table, has, IsLive, depth}
 use Rattle.diagram_arena.specs.Part.{with_bit, IsPartOf}
-use Rattle.diagram_arena.specs.Reach.{Bits, ReachesOnly}
-use Rattle.diagram_arena.specs.Arena.{ArenaState, table, KeepsNodes, NewAreUntagged, Grows}
-use Rattle.node_reclaim.specs.Pool.{PoolState}
+use Rattle.diagram_arena.specs.Reach.{Bits}
 
 -- intersection, union, difference and complement
 abbrev pub both : Words → Words → Words

@@ -2,6 +2,8 @@
 #![tactic(auto)]
 
 mod operations;
+mod pairs;
+mod product;
 mod products;
 mod projection;
 mod question;
@@ -9,6 +11,3 @@ mod settled;
 mod split;
 
 pub use operations::Ops;
-
-#[cfg(test)]
-mod tests;

@@ -1,35 +1,41 @@
 //! Operations on the sets of words that refs denote (Bryant, IEEE Transactions on Computers, 1986), by
 //! recursion over nodes.
-ghost use Rattle.std.specs.Prelude.{◌≡◌, ◌+◌, ◌-◌, ◌^◌, ◌<◌, ◌≤◌, ◌↔◌, true, [], ◌∷◌, IsErr, IfOk, IfErr, OnOk, OnErr, IfSome, IfNone, IsTrue, MatchBool, min};
+ghost use Rattle.std.specs.Prelude.{◌≡◌, ◌+◌, ◌-◌, ◌^◌, ◌<◌, ◌≤◌, ◌↔◌, true, [], ◌∷◌, IsErr, IfOk, IfErr, OnOk, OnErr, IfSome, IfNone, IsTrue, MatchBool, min, cond, Some};
+ghost use Rattle.std.specs.Map.{lookup};
 ghost use Rattle.std.specs.FinMap as map;
 ghost use Rattle.diagram_arena.specs.declared.nodes.Node.{Node};
 ghost use Rattle.diagram_arena.specs.Table.{IsLive, IsReduced, depth};
 ghost use Rattle.diagram_arena.specs.Reach.{Bits, ReachesOnly};
 ghost use Rattle.diagram_arena.specs.Arena.{most_nodes, table, CanMake, IsNeeded, IsMade, Joins, ChangesNode};
 ghost use Rattle.node_reclaim.specs.Pool.{pins_of, Pins, Unpins, IsPinned};
+ghost use Rattle.node_reclaim.specs.Reclaim.{Reclaims};
 ghost use Rattle.node_reclaim.specs.Growth.{IsFull, words_of, Stays, NewArePartsOf, NewReachOnly};
-ghost use Rattle.diagram_ops.specs.Words.{both, either, without, complement, Lies, Leaves, words_with, joined, restricted, all_but, Denotes, IsAsDeep};
-ghost use Rattle.diagram_ops.specs.Steps.{first, AreLive, HasStep, IsAnswer, IsStep, Answered};
+ghost use Rattle.diagram_ops.specs.Words.{both, either, without, complement, Lies, Leaves, HasNone, HasSome, words_with, joined, restricted, all_but, Denotes, IsAsDeep};
+ghost use Rattle.diagram_ops.specs.declared.question.Question.{Question};
+ghost use Rattle.diagram_ops.specs.contracts.question.QuestionPartialEq.TheImpl.{eq-value as same_question};
+ghost use Rattle.diagram_ops.specs.Steps.{first, asked, AreLive, HasStep, IsAnswer, AreAnswers, IsStep, Answered};
 
 use crate::question::{Op, Question};
 use crate::settled::settled;
 use crate::split::{first_bit, sides};
 use diagram_arena::{NodeId, Ref, Stop};
+use lru::LruCache;
 use node_reclaim::{Pin, Pool};
 use std::alloc::{AllocError, Global};
 use std::collections::HashMap;
 use std::marker::Model;
+use std::num::NonZeroUsize;
 
 /// A pool of nodes, and a memo of results that changes no answer.
 ///
 /// A call that makes nodes may answer Full, where the pool holds as many nodes as its limit allows, or
 /// Memory. After either, every node that was there stands with its mark, tag and pins; nodes that the
-/// call had made by then may stay. No call frees a node.
+/// call had made by then may stay. No call but `collect` frees a node.
 #[derive(Drop)]
 pub struct Ops {
     alloc: Global,
     pool: Pool,
-    memo: HashMap<Question, Ref>,
+    memo: LruCache<Question, Ref>,
 }
 
 impl Model for Ops {
@@ -48,8 +54,8 @@ impl Model for Ops {
 
 impl Ops {
     /// A pool with no nodes, that will hold at most `limit` nodes: 1 to `MAX_LIMIT`. `cache` is the
-    /// number of results to keep in mind, 1 to 1,000,000. It has no effect yet: all are kept. An `Err`
-    /// would be want of memory; none comes yet.
+    /// number of results to keep in mind from call to call, 1 to 1,000,000; within one call all are kept.
+    /// An `Err` is want of memory.
     pub fn new(alloc: Global, limit: u32, cache: usize) -> Result<Ops, AllocError>
         requires some { 0 < limit }
         requires most { limit ≤ most_nodes }
@@ -58,11 +64,14 @@ impl Ops {
         ensures empty { IfOk result (λ o. o.arena ≡ record { nodes = map.empty; limit = limit }) }
         ensures unpinned { IfOk result (λ o. o.counts ≡ map.empty) }
     {
-        let _ = cache;
+        let memo = match NonZeroUsize::new(cache) {
+            Some(size) => LruCache::sparse(alloc, size)?,
+            None => unreachable!(),
+        };
         Ok(Ops {
             alloc,
             pool: Pool::new(alloc, limit),
-            memo: HashMap::new(alloc),
+            memo,
         })
     }
 
@@ -196,8 +205,9 @@ impl Ops {
         ensures same { self.new ≡ self.old }
         ensures memory { IfErr result (λ stop. stop ≡ Stop.Memory) }
     {
-        let _ = (f, g);
-        Err(Stop::Memory)
+        let mut done = HashMap::new(self.alloc);
+        let leaves = self.asks_some(Question::Combine(Op::Diff, f, g), &mut done)?;
+        Ok(!leaves)
     }
 
     /// Begins a unit of work: nodes are reclaimed between units. The count of units stops rising at 2^64 - 1.
@@ -206,6 +216,14 @@ impl Ops {
         ensures only { self.new ≡ record self.old { units = self.new.units } }
     {
         self.pool.begin_unit();
+    }
+
+    /// Empties the memo and frees each node that no pin reaches, as `Pool::reclaim`. No memory is taken.
+    pub fn collect(&mut self)
+        ensures { Reclaims self.old self.new }
+    {
+        self.memo.clear();
+        self.pool.reclaim();
     }
 
     /// The nodes and their pins.
@@ -258,9 +276,10 @@ impl Ops {
         self.alloc
     }
 
-    /// The answer, if no step is needed or the memo has it.
-    fn known(&self, question: Question) -> Option<Ref>
-        requires { AreLive (table self.now.arena) question }
+    /// The answer, if no step is needed, `done` has it or the memo has it.
+    fn known(&self, question: Question, done: &HashMap<Question, Ref>) -> Option<Ref>
+        requires live { AreLive (table self.now.arena) question }
+        requires known { AreAnswers (table self.now.arena) done.now.entries }
         ensures found { IfSome result (IsAnswer (table self.now.arena) question) }
         ensures step { IfNone result (HasStep (table self.now.arena) question) }
         ensures reduced { IsReduced (table self.now.arena) }
@@ -269,7 +288,10 @@ impl Ops {
         let _ = self.pool();
         match settled(self.pool.arena(), question) {
             Some(r) => Some(r),
-            None => self.recall(question),
+            None => match done.get(&question).copied() {
+                Some(r) => Some(r),
+                None => self.recall(question),
+            },
         }
     }
 
@@ -278,34 +300,78 @@ impl Ops {
         ensures found { IfSome result (IsAnswer (table self.now.arena) question) }
         ensures reduced { IsReduced (table self.now.arena) }
     {
-        self.memo.get(&question).copied()
+        self.memo.peek(&question).copied()
     }
 
-    /// Keeps an answer for later.
-    fn remember(&mut self, question: Question, r: Ref) -> Result<(), AllocError>
+    /// Keeps an answer for later calls. Where memory is wanting it is forgotten.
+    fn keep(&mut self, question: Question, r: Ref)
         requires { IsAnswer (table self.old.arena) question r }
         ensures { self.new ≡ self.old }
     {
-        self.memo.insert(question, r)?;
-        Ok(())
+        let _ = self.memo.put(question, r);
     }
 
-    /// The answer, by recursion over the nodes of the question's refs. The memo is there so that no
-    /// question is answered twice.
+    /// The answer.
     fn answer(&mut self, question: Question) -> Result<Ref, Stop>
         requires { AreLive (table self.old.arena) question }
         ensures { Answered self.old self.new question result }
     {
-        match self.known(question) {
+        let mut done = HashMap::new(self.alloc);
+        self.answer_below(question, &mut done)
+    }
+
+    /// The answer, by recursion over the nodes of the question's refs. `done` has those of this call, so that
+    /// no question is answered twice however few the memo keeps.
+    pub(crate) fn answer_below(
+        &mut self,
+        question: Question,
+        done: &mut HashMap<Question, Ref>,
+    ) -> Result<Ref, Stop>
+        requires live { AreLive (table self.old.arena) question }
+        requires known { AreAnswers (table self.old.arena) done.old.entries }
+        ensures left { Answered self.old self.new question result }
+        ensures known { OnOk result (AreAnswers (table self.new.arena) done.new.entries) }
+    {
+        match self.known(question, done) {
             Some(r) => Ok(r),
             None => {
                 let bit = self.first_bit(question);
                 let (on_false, on_true) = self.sides(question, bit);
-                let lo = self.answer(on_false)?;
-                let hi = self.answer(on_true)?;
+                let lo = self.answer_below(on_false, done)?;
+                let hi = self.answer_below(on_true, done)?;
                 let r = self.node(bit, lo, hi)?;
-                self.remember(question, r)?;
+                remember(done, question, r)?;
+                self.keep(question, r);
                 Ok(r)
+            }
+        }
+    }
+
+    /// Whether a question asks for some word, by the same recursion: no node is made. Where it asks for none,
+    /// `done` has Zero as its answer.
+    fn asks_some(
+        &self,
+        question: Question,
+        done: &mut HashMap<Question, Ref>,
+    ) -> Result<bool, AllocError>
+        requires live { AreLive (table self.now.arena) question }
+        requires known { AreAnswers (table self.now.arena) done.old.entries }
+        ensures some { IfOk result (λ some. MatchBool some (HasSome (asked (table self.now.arena) question)) (HasNone (asked (table self.now.arena) question))) }
+        ensures known { OnOk result (AreAnswers (table self.now.arena) done.new.entries) }
+    {
+        match self.known(question, done) {
+            Some(r) => Ok(!is_zero(r)),
+            None => {
+                let bit = self.first_bit(question);
+                let (on_false, on_true) = self.sides(question, bit);
+                if self.asks_some(on_false, done)? {
+                    return Ok(true);
+                }
+                if self.asks_some(on_true, done)? {
+                    return Ok(true);
+                }
+                remember(done, question, Ref::Zero)?;
+                Ok(false)
             }
         }
     }
@@ -330,7 +396,15 @@ impl Ops {
     }
 }
 
-fn is_zero(r: Ref) -> bool
+/// Keeps an answer for the rest of a call.
+fn remember(done: &mut HashMap<Question, Ref>, question: Question, r: Ref) -> Result<(), AllocError>
+    ensures { OnOk result ((q : Question) → lookup (same_question.it q) done.new.entries ≡ cond (same_question.it question q) (Some r) (lookup (same_question.it q) done.old.entries)) }
+{
+    done.insert(question, r)?;
+    Ok(())
+}
+
+pub(crate) fn is_zero(r: Ref) -> bool
     ensures { IsTrue result ↔ (r ≡ Ref.Zero) }
 {
     r == Ref::Zero

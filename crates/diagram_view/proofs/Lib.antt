@@ -8,4 +8,3 @@ pub mod Residual
 pub mod Counts
 pub mod Leveling
 pub mod Firsts
-pub mod Built

@@ -12,6 +12,3 @@ pub use counting::node_count;
 pub use laws::{residual_counts_are_one, words_over_bits};
 pub use walks::{first_open, has, single};
 pub use word_bounds::{WordBounds, bounds};
-
-#[cfg(test)]
-mod tests;

@@ -1,6 +1,6 @@
 -- What a call that makes nodes leaves of a pool: all that was there, and of the new nodes what sets they have. This project's own; the
 -- sets of a diagram's nodes are the residual sets of its words (Bryant, IEEE Transactions on Computers, 1986).
-use Rattle.std.specs.Prelude.{◌≡◌, ℕ, ◌+◌, false, None, Some}
+use Rattle.std.specs.Prelude.{◌≡◌, ◌+◌, false, None, Some}
 use Rattle.std.specs.FinMap as map
 use Rattle.diagram_arena.specs.declared.nodes.NodeId.{NodeId}
 use Rattle.diagram_arena.specs.declared.nodes.Node.{Node as Stored}

@@ -5,8 +5,10 @@ ghost use Rattle.diagram_arena.specs.declared.nodes.NodeId.{NodeId};
 ghost use Rattle.diagram_arena.specs.declared.nodes.Node.{Node};
 ghost use Rattle.diagram_arena.specs.Table.{IsLive, IsReduced};
 ghost use Rattle.diagram_arena.specs.Arena.{most_nodes, table, CanMake, IsNeeded, IsMade, KeepsNodes, NewAreUntagged, Grows, Joins, ChangesNode};
+ghost use Rattle.node_reclaim.specs.Reclaim.{Reclaims};
 ghost use Rattle.node_reclaim.specs.Pool.{node_count, pins_of, times, Pins, Unpins, IsPinned, pinned_refs};
 
+use crate::marking::mark_counted;
 use diagram_arena::{Arena, NodeId, Ref, Stop};
 use std::alloc::{AllocError, Global};
 use std::collections::BTreeMap;
@@ -211,6 +213,21 @@ impl Pool {
         } else if let Some(count) = self.pins.get_mut(&id) {
             *count = left;
         }
+    }
+
+    /// Removes every node that no pin reaches, and begins the counts of units and of made nodes again. What is kept
+    /// has its bit, its children, its tag and its pins, and no mark. The id of a removed node may be given to a later
+    /// one, whose tag is 0. It takes no memory, and time linear in the most nodes that there were; it recurs as deep
+    /// as the longest path of bits.
+    pub fn reclaim(&mut self)
+        ensures { Reclaims self.old self.new }
+    {
+        self.arena.clear_marks();
+        mark_counted(&mut self.arena, &self.pins);
+        self.arena.drop_unmarked();
+        self.arena.clear_marks();
+        self.units = 0;
+        self.made = 0;
     }
 
     /// Gives the node under `id` this tag.

@@ -1,13 +1,11 @@
-use Rattle.std.proofs.Common.{arith}
-use Rattle.std.proofs.lemmas.Bool.{ltb-true, lt-ltb}
-use Rattle.diagram_arena.proofs.States.{live_within, within_live}
+use Rattle.diagram_arena.proofs.States.{live_there, there_live}
 use Rattle.diagram_arena.proofs.hash_consing.Arena.is_live.Goals as goal
 
 pub returns-in-Node : goal.returns-in-Node
 returns-in-Node c =
-    let ns = c.self.inside.nodes.items in
+    let ns = c.self.inside.nodes.slots in
     let i = c.in-Node.id in
     rw (← c.self.view_is, c.in-Node.is) (
-      (λ e. let less = ltb-true i.0 c.len.result e in within_live ns c.self.inside.limit i (omega (arith, less, c.len.ensures))),
-      (λ live. let within = live_within ns c.self.inside.limit i live in lt-ltb i.0 c.len.result (omega (arith, within, c.len.ensures))),
+      (λ e. there_live ns c.self.inside.limit i (rw c.key.ensures at (c.contains.ensures.0 e))),
+      (λ live. c.contains.ensures.1 (rw c.key.ensures (live_there ns c.self.inside.limit i live))),
     )

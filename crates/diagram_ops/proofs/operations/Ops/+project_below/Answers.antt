@@ -1,72 +1,152 @@
-use Rattle.std.proofs.Common.{Err, sym, ◌∙◌, ap, subst, arith, false, true}
-use Rattle.diagram_arena.specs.Arena.{ArenaState, table}
-use Rattle.node_reclaim.specs.Pool.{PoolState}
-use Rattle.diagram_ops.specs.Steps.{AreProjected}
-use Rattle.diagram_ops.proofs.Steps.{stays_self}
-use Rattle.diagram_ops.proofs.Exits.{passed_on, not_full}
-use Rattle.diagram_ops.proofs.Projecting.{step_at, lo_call, hi_call, both_calls, both_join, join_call, joined_answer, ends_ok, ends_err, falls, known_grows, known_puts}
+use Rattle.std.proofs.Common.{ℕ, Ok, Err, sym, ap, subst, arith, false, true}
+use Rattle.diagram_arena.specs.Arena.{table}
+use Rattle.diagram_ops.specs.Meanings.{first_of, front_of, ProjectsWords}
+use Rattle.diagram_ops.proofs.Exits.{sofar_self, passed_on, not_full}
+use Rattle.diagram_ops.proofs.Meant.{first_more, means_more, there_more, extends_then}
+use Rattle.diagram_ops.proofs.Same.{known_more, known_put, known_joined}
+use Rattle.diagram_ops.proofs.Projecting.{lo_call, hi_call, both_calls, join_call, ends_err, joined_ends, covered_ends, found_ends, is_projection, at_some}
+use Rattle.diagram_ops.proofs.Going.{sides_at, lo_falls, second_at, bounded_more}
 use Rattle.diagram_ops.proofs.operations.Ops.+project_below.Goals as goal
 
-pub known-requires-clause-known : goal.known-requires-clause-known
-known-requires-clause-known t c =
-    subst (λ (a : ArenaState). AreProjected (table a) c.args.keep.now c.args.done.now.entries)
-    (sym (c.arena.ensures.arena ∙ ap (λ (p : PoolState). p.arena) c.pool.ensures.pool)) c.requires.known
+pub returns-in_err-r-clause-left : goal.returns-in_err-r-clause-left
+returns-in_err-r-clause-left t c V means =
+    ends_err c.args.self.now c.args.self.now c.args.keep.now V (first_of (table c.args.self.now.arena) c.args.work.now.pairs.pairs.items c.args.p) c.from_residual.result c.from_residual.ensures.0 (sofar_self c.args.self.now _ c.seen.ensures.reduced) (not_full c.from_residual.result _ c.from_residual.ensures.1)
+
+pub returns-in-Some-clause-left : goal.returns-in-Some-clause-left
+returns-in-Some-clause-left t c V means =
+    found_ends c.args.self.now c.seen.ensures.reduced c.args.work.now.pairs.pairs.items c.seen.new.work.pairs.pairs.items c.args.keep.now c.args.p V (first_of (table c.args.self.now.arena) c.args.work.now.pairs.pairs.items c.args.p) c.in-Some.r (means_more (table c.args.self.now.arena) c.args.work.now.pairs.pairs.items c.seen.new.work.pairs.pairs.items c.in_ok-r.ensures.extends c.args.p V means)
+    (sym (first_more (table c.args.self.now.arena) c.args.work.now.pairs.pairs.items c.seen.new.work.pairs.pairs.items c.in_ok-r.ensures.extends c.args.p V means)) (at_some c.in_ok-r.field-0 c.in-Some.r _ c.in-Some.is c.in_ok-r.ensures.found)
+
+pub step-requires-clause-there : goal.step-requires-clause-there
+step-requires-clause-there t c = there_more (table c.args.self.now.arena) c.args.work.now.pairs.pairs.items c.seen.new.work.pairs.pairs.items c.in_ok-r.ensures.extends c.args.p c.requires.there
+
+pub step-requires-clause-bounded : goal.step-requires-clause-bounded
+step-requires-clause-bounded t c V means = bounded_more (table c.args.self.now.arena) c.args.work.now.pairs.pairs.items c.seen.new.work.pairs.pairs.items c.args.p _ c.requires.there c.in_ok-r.ensures.extends c.requires.bounded V means
+
+pub returns-in_err-step-in-None-clause-left : goal.returns-in_err-step-in-None-clause-left
+returns-in_err-step-in-None-clause-left t c V means =
+    ends_err c.args.self.now c.args.self.now c.args.keep.now V (first_of (table c.args.self.now.arena) c.args.work.now.pairs.pairs.items c.args.p) c.from_residual-in_err-step-in-None.result c.from_residual-in_err-step-in-None.ensures.0 (sofar_self c.args.self.now _ c.seen.ensures.reduced)
+    (not_full c.from_residual-in_err-step-in-None.result _ c.from_residual-in_err-step-in-None.ensures.1)
 
 pub project_below-requires : goal.project_below-requires
 project_below-requires t c =
-    let step = (step_at c.args.self.now c.args.f c.sides_of-bit.result.0 c.sides_of-bit.result.1 c.sides_of-bit.result.2 c.sides_of-bit.ensures.reduced c.requires.f_live c.sides_of-bit.ensures.bit c.sides_of-bit.ensures.sides) in
-    let down = falls c.args.self.now c.args.self.now c.args.f c.sides_of-bit.result.0 c.sides_of-bit.result.1 c.sides_of-bit.result.2 false step (stays_self c.args.self.now c.sides_of-bit.ensures.reduced) in
-    (omega (arith, down, c.decreases), (c.sides_of-bit.ensures.sides.live false, (c.requires.ascends, c.requires.known)))
+    let is = sides_at (table c.args.self.now.arena) c.args.work.now.pairs.pairs.items c.seen.new.work.pairs.pairs.items c.step.new.pairs.pairs.items c.args.p c.in_ok-step-in-None.step c.requires.there.0 c.requires.there.1 c.in_ok-r.ensures.extends c.in_ok-step-in-None.ensures.step in
+    let down = lo_falls (table c.args.self.now.arena) c.seen.ensures.reduced c.args.work.now.pairs.pairs.items c.step.new.pairs.pairs.items c.args.p c.in_ok-step-in-None.step c.requires.there.0 is in (
+      omega (arith, down, c.decreases),
+      (
+        (_, is.lo_means),
+        (
+          c.requires.ascends,
+          (
+            is.lo_live,
+            (
+              c.in_ok-step-in-None.ensures.step.lo_bounded,
+              known_more (table c.args.self.now.arena) c.seen.new.work.pairs.pairs.items c.step.new.pairs.pairs.items c.args.keep.now _ _ _ c.in_ok-step-in-None.ensures.extends c.in_ok-r.ensures.work,
+            ),
+          ),
+        ),
+      ),
+    )
 
 pub returns-in_err-lo-in-None-clause-left : goal.returns-in_err-lo-in-None-clause-left
-returns-in_err-lo-in-None-clause-left t c =
-    ends_err c.args.self.now c.project_below.new.self c.args.keep.now c.args.f c.from_residual.result c.from_residual.ensures.0 c.sides_of-bit.ensures.reduced
-    (lo_call c.args.self.now c.project_below.new.self c.args.keep.now c.args.f c.sides_of-bit.result.0 c.sides_of-bit.result.1 c.sides_of-bit.result.2 c.project_below.result (step_at c.args.self.now c.args.f c.sides_of-bit.result.0 c.sides_of-bit.result.1 c.sides_of-bit.result.2 c.sides_of-bit.ensures.reduced c.requires.f_live c.sides_of-bit.ensures.bit c.sides_of-bit.ensures.sides) c.project_below.ensures.left)
-    (passed_on c.from_residual.result c.in_err-lo-in-None.field-0.0 _ c.from_residual.ensures.1 (λ e. c.in_err-lo-in-None.ensures.left.full (ap Err e)))
+returns-in_err-lo-in-None-clause-left t c V means =
+    let is = sides_at (table c.args.self.now.arena) c.args.work.now.pairs.pairs.items c.seen.new.work.pairs.pairs.items c.step.new.pairs.pairs.items c.args.p c.in_ok-step-in-None.step V means c.in_ok-r.ensures.extends c.in_ok-step-in-None.ensures.step in
+    ends_err c.args.self.now c.project_below.new.self c.args.keep.now V (first_of (table c.args.self.now.arena) c.args.work.now.pairs.pairs.items c.args.p) c.from_residual-in_err-lo-in-None.result c.from_residual-in_err-lo-in-None.ensures.0
+    (lo_call c.args.self.now c.project_below.new.self c.args.keep.now V c.in_ok-step-in-None.step.bit (first_of (table c.args.self.now.arena) c.step.new.pairs.pairs.items c.in_ok-step-in-None.step.lo) c.project_below.result (c.project_below.ensures.left (front_of V c.in_ok-step-in-None.step.bit false) is.lo_means))
+    (passed_on c.from_residual-in_err-lo-in-None.result c.in_err-lo-in-None.field-0.0 _ c.from_residual-in_err-lo-in-None.ensures.1
+    (λ e. (c.in_err-lo-in-None.ensures.left (front_of V c.in_ok-step-in-None.step.bit false) is.lo_means).full (ap Err e)))
+
+pub returns-in_err-remember-in-None-clause-left : goal.returns-in_err-remember-in-None-clause-left
+returns-in_err-remember-in-None-clause-left t c V means =
+    let is = sides_at (table c.args.self.now.arena) c.args.work.now.pairs.pairs.items c.seen.new.work.pairs.pairs.items c.step.new.pairs.pairs.items c.args.p c.in_ok-step-in-None.step V means c.in_ok-r.ensures.extends c.in_ok-step-in-None.ensures.step in
+    ends_err c.args.self.now c.project_below.new.self c.args.keep.now V (first_of (table c.args.self.now.arena) c.args.work.now.pairs.pairs.items c.args.p) c.from_residual-in_err-remember-in-None.result c.from_residual-in_err-remember-in-None.ensures.0
+    (lo_call c.args.self.now c.project_below.new.self c.args.keep.now V c.in_ok-step-in-None.step.bit (first_of (table c.args.self.now.arena) c.step.new.pairs.pairs.items c.in_ok-step-in-None.step.lo) c.project_below.result (c.project_below.ensures.left (front_of V c.in_ok-step-in-None.step.bit false) is.lo_means))
+    (not_full c.from_residual-in_err-remember-in-None.result _ c.from_residual-in_err-remember-in-None.ensures.1)
+
+pub returns-then-is_covered-clause-left : goal.returns-then-is_covered-clause-left
+returns-then-is_covered-clause-left t c V means =
+    let is = sides_at (table c.args.self.now.arena) c.args.work.now.pairs.pairs.items c.seen.new.work.pairs.pairs.items c.step.new.pairs.pairs.items c.args.p c.in_ok-step-in-None.step V means c.in_ok-r.ensures.extends c.in_ok-step-in-None.ensures.step in
+    let over = c.is_covered.ensures c.if-is_covered.true in
+    subst (λ (d : ℕ). ProjectsWords c.args.self.now c.project_below.new.self c.args.keep.now V d (Ok c.in_ok-lo-in-None.lo)) is.at
+    (covered_ends c.args.self.now c.project_below.new.self c.args.keep.now V c.in_ok-step-in-None.step.bit (first_of (table c.args.self.now.arena) c.step.new.pairs.pairs.items c.in_ok-step-in-None.step.lo) c.in_ok-lo-in-None.lo c.in_ok-step-in-None.step.bound_hi is.words is.lo_far (c.in_ok-lo-in-None.ensures.left (front_of V c.in_ok-step-in-None.step.bit false) is.lo_means) is.over is.hi_live over.0 over.1)
+
+pub returns-then-is_covered-clause-work : goal.returns-then-is_covered-clause-work
+returns-then-is_covered-clause-work t c =
+    let is = sides_at (table c.args.self.now.arena) c.args.work.now.pairs.pairs.items c.seen.new.work.pairs.pairs.items c.step.new.pairs.pairs.items c.args.p c.in_ok-step-in-None.step c.requires.there.0 c.requires.there.1 c.in_ok-r.ensures.extends c.in_ok-step-in-None.ensures.step in
+    let over = c.is_covered.ensures c.if-is_covered.true in
+    let done = subst (λ (d : ℕ). ProjectsWords c.args.self.now c.project_below.new.self c.args.keep.now c.requires.there.0 d (Ok c.in_ok-lo-in-None.lo)) is.at
+    (covered_ends c.args.self.now c.project_below.new.self c.args.keep.now c.requires.there.0 c.in_ok-step-in-None.step.bit (first_of (table c.args.self.now.arena) c.step.new.pairs.pairs.items c.in_ok-step-in-None.step.lo) c.in_ok-lo-in-None.lo c.in_ok-step-in-None.step.bound_hi is.words is.lo_far (c.in_ok-lo-in-None.ensures.left (front_of c.requires.there.0 c.in_ok-step-in-None.step.bit false) is.lo_means) is.over is.hi_live over.0 over.1) in
+    known_put (table c.project_below.new.self.arena) c.project_below.new.work.pairs.pairs.items c.args.keep.now _ c.remember.new.done.entries _ _ c.args.p c.in_ok-lo-in-None.lo c.in_ok-lo-in-None.ensures.work
+    (is_projection c.args.self.now c.project_below.new.self c.args.work.now.pairs.pairs.items c.project_below.new.work.pairs.pairs.items c.args.keep.now c.args.p c.requires.there.0 c.in_ok-lo-in-None.lo c.requires.there.1 (extends_then c.args.work.now.pairs.pairs.items c.seen.new.work.pairs.pairs.items c.project_below.new.work.pairs.pairs.items c.in_ok-r.ensures.extends (extends_then c.seen.new.work.pairs.pairs.items c.step.new.pairs.pairs.items c.project_below.new.work.pairs.pairs.items c.in_ok-step-in-None.ensures.extends c.in_ok-lo-in-None.ensures.extends)) done) c.in_ok-remember-in-None.ensures
 
 pub project_below-requires-in-None : goal.project_below-requires-in-None
 project_below-requires-in-None t c =
-    let step = (step_at c.args.self.now c.args.f c.sides_of-bit.result.0 c.sides_of-bit.result.1 c.sides_of-bit.result.2 c.sides_of-bit.ensures.reduced c.requires.f_live c.sides_of-bit.ensures.bit c.sides_of-bit.ensures.sides) in
-    let stays = c.project_below.ensures.left.stays in
-    let down = falls c.args.self.now c.project_below.new.self c.args.f c.sides_of-bit.result.0 c.sides_of-bit.result.1 c.sides_of-bit.result.2 true step stays in
-    (omega (arith, down, c.decreases), (stays.grows.live _ (c.sides_of-bit.ensures.sides.live true), (c.requires.ascends, c.in_ok-lo-in-None.ensures.known)))
+    let is = sides_at (table c.args.self.now.arena) c.args.work.now.pairs.pairs.items c.seen.new.work.pairs.pairs.items c.step.new.pairs.pairs.items c.args.p c.in_ok-step-in-None.step c.requires.there.0 c.requires.there.1 c.in_ok-r.ensures.extends c.in_ok-step-in-None.ensures.step in
+    let lo_done = c.in_ok-lo-in-None.ensures.left (front_of c.requires.there.0 c.in_ok-step-in-None.step.bit false) is.lo_means in
+    let second = second_at (table c.args.self.now.arena) (table c.project_below.new.self.arena) c.seen.ensures.reduced lo_done.stays.grows c.args.work.now.pairs.pairs.items c.step.new.pairs.pairs.items c.project_below.new.work.pairs.pairs.items c.args.p c.in_ok-step-in-None.step c.requires.there.0 is c.in_ok-lo-in-None.ensures.extends in
+    let down = second.falls in
+    (omega (arith, down, c.decreases), ((_, second.means), (c.requires.ascends, (second.live, (second.bounded, c.in_ok-lo-in-None.ensures.work)))))
 
 pub returns-in_err-hi-in-None-clause-left : goal.returns-in_err-hi-in-None-clause-left
-returns-in_err-hi-in-None-clause-left t c =
-    ends_err c.args.self.now c.project_below-in-None.new.self c.args.keep.now c.args.f c.from_residual-in_err-hi-in-None.result c.from_residual-in_err-hi-in-None.ensures.0 c.sides_of-bit.ensures.reduced
-    (hi_call c.args.self.now c.project_below.new.self c.project_below-in-None.new.self c.args.keep.now c.args.f c.sides_of-bit.result.0 c.sides_of-bit.result.1 c.sides_of-bit.result.2 c.in_ok-lo-in-None.lo c.project_below-in-None.result (step_at c.args.self.now c.args.f c.sides_of-bit.result.0 c.sides_of-bit.result.1 c.sides_of-bit.result.2 c.sides_of-bit.ensures.reduced c.requires.f_live c.sides_of-bit.ensures.bit c.sides_of-bit.ensures.sides) c.in_ok-lo-in-None.ensures.left c.project_below-in-None.ensures.left)
-    (passed_on c.from_residual-in_err-hi-in-None.result c.in_err-hi-in-None.field-0.0 _ c.from_residual-in_err-hi-in-None.ensures.1 (λ e. c.in_err-hi-in-None.ensures.left.full (ap Err e)))
+returns-in_err-hi-in-None-clause-left t c V means =
+    let is = sides_at (table c.args.self.now.arena) c.args.work.now.pairs.pairs.items c.seen.new.work.pairs.pairs.items c.step.new.pairs.pairs.items c.args.p c.in_ok-step-in-None.step V means c.in_ok-r.ensures.extends c.in_ok-step-in-None.ensures.step in
+    let lo_done = c.in_ok-lo-in-None.ensures.left (front_of V c.in_ok-step-in-None.step.bit false) is.lo_means in
+    let second = second_at (table c.args.self.now.arena) (table c.project_below.new.self.arena) c.seen.ensures.reduced lo_done.stays.grows c.args.work.now.pairs.pairs.items c.step.new.pairs.pairs.items c.project_below.new.work.pairs.pairs.items c.args.p c.in_ok-step-in-None.step V is c.in_ok-lo-in-None.ensures.extends in
+    ends_err c.args.self.now c.project_below-in-None.new.self c.args.keep.now V (first_of (table c.args.self.now.arena) c.args.work.now.pairs.pairs.items c.args.p) c.from_residual-in_err-hi-in-None.result c.from_residual-in_err-hi-in-None.ensures.0
+    (hi_call c.args.self.now c.project_below.new.self c.project_below-in-None.new.self c.args.keep.now V c.in_ok-step-in-None.step.bit (first_of (table c.args.self.now.arena) c.step.new.pairs.pairs.items c.in_ok-step-in-None.step.lo) (first_of (table c.project_below.new.self.arena) c.project_below.new.work.pairs.pairs.items c.in_ok-step-in-None.step.hi) c.in_ok-lo-in-None.lo c.project_below-in-None.result lo_done (c.project_below-in-None.ensures.left (front_of V c.in_ok-step-in-None.step.bit true) second.means))
+    (passed_on c.from_residual-in_err-hi-in-None.result c.in_err-hi-in-None.field-0.0 _ c.from_residual-in_err-hi-in-None.ensures.1
+    (λ e. (c.in_err-hi-in-None.ensures.left (front_of V c.in_ok-step-in-None.step.bit true) second.means).full (ap Err e)))
 
 pub join_sides-requires-clause-can : goal.join_sides-requires-clause-can
 join_sides-requires-clause-can t c =
-    let both = both_calls c.args.self.now c.project_below.new.self c.project_below-in-None.new.self c.args.keep.now c.args.f c.sides_of-bit.result.0 c.sides_of-bit.result.1 c.sides_of-bit.result.2 c.in_ok-lo-in-None.lo c.in_ok-hi-in-None.hi (step_at c.args.self.now c.args.f c.sides_of-bit.result.0 c.sides_of-bit.result.1 c.sides_of-bit.result.2 c.sides_of-bit.ensures.reduced c.requires.f_live c.sides_of-bit.ensures.bit c.sides_of-bit.ensures.sides) c.in_ok-lo-in-None.ensures.left c.in_ok-hi-in-None.ensures.left in
-    both_join c.args.self.now c.project_below-in-None.new.self c.args.keep.now c.args.f c.sides_of-bit.result.0 c.sides_of-bit.result.1 c.sides_of-bit.result.2 c.in_ok-lo-in-None.lo c.in_ok-hi-in-None.hi both
+    let is = sides_at (table c.args.self.now.arena) c.args.work.now.pairs.pairs.items c.seen.new.work.pairs.pairs.items c.step.new.pairs.pairs.items c.args.p c.in_ok-step-in-None.step c.requires.there.0 c.requires.there.1 c.in_ok-r.ensures.extends c.in_ok-step-in-None.ensures.step in
+    let lo_done = c.in_ok-lo-in-None.ensures.left (front_of c.requires.there.0 c.in_ok-step-in-None.step.bit false) is.lo_means in
+    let second = second_at (table c.args.self.now.arena) (table c.project_below.new.self.arena) c.seen.ensures.reduced lo_done.stays.grows c.args.work.now.pairs.pairs.items c.step.new.pairs.pairs.items c.project_below.new.work.pairs.pairs.items c.args.p c.in_ok-step-in-None.step c.requires.there.0 is c.in_ok-lo-in-None.ensures.extends in
+    let hi_done = c.in_ok-hi-in-None.ensures.left (front_of c.requires.there.0 c.in_ok-step-in-None.step.bit true) second.means in
+    let both = both_calls c.args.self.now c.project_below.new.self c.project_below-in-None.new.self c.args.keep.now c.requires.there.0 c.in_ok-step-in-None.step.bit (first_of (table c.args.self.now.arena) c.step.new.pairs.pairs.items c.in_ok-step-in-None.step.lo) (first_of (table c.project_below.new.self.arena) c.project_below.new.work.pairs.pairs.items c.in_ok-step-in-None.step.hi) c.in_ok-lo-in-None.lo c.in_ok-hi-in-None.hi is.words is.lo_far second.far lo_done hi_done in
+    both.can
 
 pub returns-in_err-r-in-None-clause-left : goal.returns-in_err-r-in-None-clause-left
-returns-in_err-r-in-None-clause-left t c =
-    let both = both_calls c.args.self.now c.project_below.new.self c.project_below-in-None.new.self c.args.keep.now c.args.f c.sides_of-bit.result.0 c.sides_of-bit.result.1 c.sides_of-bit.result.2 c.in_ok-lo-in-None.lo c.in_ok-hi-in-None.hi (step_at c.args.self.now c.args.f c.sides_of-bit.result.0 c.sides_of-bit.result.1 c.sides_of-bit.result.2 c.sides_of-bit.ensures.reduced c.requires.f_live c.sides_of-bit.ensures.bit c.sides_of-bit.ensures.sides) c.in_ok-lo-in-None.ensures.left c.in_ok-hi-in-None.ensures.left in
-    ends_err c.args.self.now c.join_sides.new.self c.args.keep.now c.args.f c.from_residual-in_err-r-in-None.result c.from_residual-in_err-r-in-None.ensures.0 c.sides_of-bit.ensures.reduced
-    (join_call c.args.self.now c.project_below-in-None.new.self c.join_sides.new.self c.args.keep.now c.args.f c.sides_of-bit.result.0 c.sides_of-bit.result.1 c.sides_of-bit.result.2 c.in_ok-lo-in-None.lo c.in_ok-hi-in-None.hi c.join_sides.result both c.join_sides.ensures)
-    (passed_on c.from_residual-in_err-r-in-None.result c.in_err-r-in-None.field-0.0 _ c.from_residual-in_err-r-in-None.ensures.1 (λ e. c.in_err-r-in-None.ensures.full (ap Err e)))
+returns-in_err-r-in-None-clause-left t c V means =
+    let is = sides_at (table c.args.self.now.arena) c.args.work.now.pairs.pairs.items c.seen.new.work.pairs.pairs.items c.step.new.pairs.pairs.items c.args.p c.in_ok-step-in-None.step V means c.in_ok-r.ensures.extends c.in_ok-step-in-None.ensures.step in
+    let lo_done = c.in_ok-lo-in-None.ensures.left (front_of V c.in_ok-step-in-None.step.bit false) is.lo_means in
+    let second = second_at (table c.args.self.now.arena) (table c.project_below.new.self.arena) c.seen.ensures.reduced lo_done.stays.grows c.args.work.now.pairs.pairs.items c.step.new.pairs.pairs.items c.project_below.new.work.pairs.pairs.items c.args.p c.in_ok-step-in-None.step V is c.in_ok-lo-in-None.ensures.extends in
+    let hi_done = c.in_ok-hi-in-None.ensures.left (front_of V c.in_ok-step-in-None.step.bit true) second.means in
+    let both = both_calls c.args.self.now c.project_below.new.self c.project_below-in-None.new.self c.args.keep.now V c.in_ok-step-in-None.step.bit (first_of (table c.args.self.now.arena) c.step.new.pairs.pairs.items c.in_ok-step-in-None.step.lo) (first_of (table c.project_below.new.self.arena) c.project_below.new.work.pairs.pairs.items c.in_ok-step-in-None.step.hi) c.in_ok-lo-in-None.lo c.in_ok-hi-in-None.hi is.words is.lo_far second.far lo_done hi_done in
+    ends_err c.args.self.now c.join_sides.new.self c.args.keep.now V (first_of (table c.args.self.now.arena) c.args.work.now.pairs.pairs.items c.args.p) c.from_residual-in_err-r-in-None.result c.from_residual-in_err-r-in-None.ensures.0
+    (join_call c.args.self.now c.project_below-in-None.new.self c.join_sides.new.self c.args.keep.now V c.in_ok-step-in-None.step.bit c.in_ok-lo-in-None.lo c.in_ok-hi-in-None.hi c.join_sides.result both c.join_sides.ensures.joined)
+    (passed_on c.from_residual-in_err-r-in-None.result c.in_err-r-in-None.field-0.0 _ c.from_residual-in_err-r-in-None.ensures.1 (λ e. c.in_err-r-in-None.ensures.joined.full (ap Err e)))
 
-pub returns-in_err-remember-in-None-clause-left : goal.returns-in_err-remember-in-None-clause-left
-returns-in_err-remember-in-None-clause-left t c =
-    let both = both_calls c.args.self.now c.project_below.new.self c.project_below-in-None.new.self c.args.keep.now c.args.f c.sides_of-bit.result.0 c.sides_of-bit.result.1 c.sides_of-bit.result.2 c.in_ok-lo-in-None.lo c.in_ok-hi-in-None.hi (step_at c.args.self.now c.args.f c.sides_of-bit.result.0 c.sides_of-bit.result.1 c.sides_of-bit.result.2 c.sides_of-bit.ensures.reduced c.requires.f_live c.sides_of-bit.ensures.bit c.sides_of-bit.ensures.sides) c.in_ok-lo-in-None.ensures.left c.in_ok-hi-in-None.ensures.left in
-    ends_err c.args.self.now c.join_sides.new.self c.args.keep.now c.args.f c.from_residual-in_err-remember-in-None.result c.from_residual-in_err-remember-in-None.ensures.0 c.sides_of-bit.ensures.reduced
-    (join_call c.args.self.now c.project_below-in-None.new.self c.join_sides.new.self c.args.keep.now c.args.f c.sides_of-bit.result.0 c.sides_of-bit.result.1 c.sides_of-bit.result.2 c.in_ok-lo-in-None.lo c.in_ok-hi-in-None.hi c.join_sides.result both c.join_sides.ensures)
-    (not_full c.from_residual-in_err-remember-in-None.result _ c.from_residual-in_err-remember-in-None.ensures.1)
+pub returns-in_err-remember-in-None-2-clause-left : goal.returns-in_err-remember-in-None-2-clause-left
+returns-in_err-remember-in-None-2-clause-left t c V means =
+    let is = sides_at (table c.args.self.now.arena) c.args.work.now.pairs.pairs.items c.seen.new.work.pairs.pairs.items c.step.new.pairs.pairs.items c.args.p c.in_ok-step-in-None.step V means c.in_ok-r.ensures.extends c.in_ok-step-in-None.ensures.step in
+    let lo_done = c.in_ok-lo-in-None.ensures.left (front_of V c.in_ok-step-in-None.step.bit false) is.lo_means in
+    let second = second_at (table c.args.self.now.arena) (table c.project_below.new.self.arena) c.seen.ensures.reduced lo_done.stays.grows c.args.work.now.pairs.pairs.items c.step.new.pairs.pairs.items c.project_below.new.work.pairs.pairs.items c.args.p c.in_ok-step-in-None.step V is c.in_ok-lo-in-None.ensures.extends in
+    let hi_done = c.in_ok-hi-in-None.ensures.left (front_of V c.in_ok-step-in-None.step.bit true) second.means in
+    let both = both_calls c.args.self.now c.project_below.new.self c.project_below-in-None.new.self c.args.keep.now V c.in_ok-step-in-None.step.bit (first_of (table c.args.self.now.arena) c.step.new.pairs.pairs.items c.in_ok-step-in-None.step.lo) (first_of (table c.project_below.new.self.arena) c.project_below.new.work.pairs.pairs.items c.in_ok-step-in-None.step.hi) c.in_ok-lo-in-None.lo c.in_ok-hi-in-None.hi is.words is.lo_far second.far lo_done hi_done in
+    ends_err c.args.self.now c.join_sides.new.self c.args.keep.now V (first_of (table c.args.self.now.arena) c.args.work.now.pairs.pairs.items c.args.p) c.from_residual-in_err-remember-in-None-2.result c.from_residual-in_err-remember-in-None-2.ensures.0
+    (join_call c.args.self.now c.project_below-in-None.new.self c.join_sides.new.self c.args.keep.now V c.in_ok-step-in-None.step.bit c.in_ok-lo-in-None.lo c.in_ok-hi-in-None.hi c.join_sides.result both c.join_sides.ensures.joined)
+    (not_full c.from_residual-in_err-remember-in-None-2.result _ c.from_residual-in_err-remember-in-None-2.ensures.1)
 
-pub returns-in_ok-remember-in-None-clause-left : goal.returns-in_ok-remember-in-None-clause-left
-returns-in_ok-remember-in-None-clause-left t c =
-    let both = both_calls c.args.self.now c.project_below.new.self c.project_below-in-None.new.self c.args.keep.now c.args.f c.sides_of-bit.result.0 c.sides_of-bit.result.1 c.sides_of-bit.result.2 c.in_ok-lo-in-None.lo c.in_ok-hi-in-None.hi (step_at c.args.self.now c.args.f c.sides_of-bit.result.0 c.sides_of-bit.result.1 c.sides_of-bit.result.2 c.sides_of-bit.ensures.reduced c.requires.f_live c.sides_of-bit.ensures.bit c.sides_of-bit.ensures.sides) c.in_ok-lo-in-None.ensures.left c.in_ok-hi-in-None.ensures.left in
-    ends_ok c.args.self.now c.join_sides.new.self c.args.keep.now c.args.f c.in_ok-r-in-None.r c.sides_of-bit.ensures.reduced
-    (join_call c.args.self.now c.project_below-in-None.new.self c.join_sides.new.self c.args.keep.now c.args.f c.sides_of-bit.result.0 c.sides_of-bit.result.1 c.sides_of-bit.result.2 c.in_ok-lo-in-None.lo c.in_ok-hi-in-None.hi c.join_sides.result both c.join_sides.ensures)
-    (joined_answer c.args.self.now c.project_below-in-None.new.self c.join_sides.new.self c.args.keep.now c.args.f c.sides_of-bit.result.0 c.sides_of-bit.result.1 c.sides_of-bit.result.2 c.in_ok-lo-in-None.lo c.in_ok-hi-in-None.hi c.in_ok-r-in-None.r both c.in_ok-r-in-None.ensures)
+pub returns-in_ok-remember-in-None-2-clause-left : goal.returns-in_ok-remember-in-None-2-clause-left
+returns-in_ok-remember-in-None-2-clause-left t c V means =
+    let is = sides_at (table c.args.self.now.arena) c.args.work.now.pairs.pairs.items c.seen.new.work.pairs.pairs.items c.step.new.pairs.pairs.items c.args.p c.in_ok-step-in-None.step V means c.in_ok-r.ensures.extends c.in_ok-step-in-None.ensures.step in
+    let lo_done = c.in_ok-lo-in-None.ensures.left (front_of V c.in_ok-step-in-None.step.bit false) is.lo_means in
+    let second = second_at (table c.args.self.now.arena) (table c.project_below.new.self.arena) c.seen.ensures.reduced lo_done.stays.grows c.args.work.now.pairs.pairs.items c.step.new.pairs.pairs.items c.project_below.new.work.pairs.pairs.items c.args.p c.in_ok-step-in-None.step V is c.in_ok-lo-in-None.ensures.extends in
+    let hi_done = c.in_ok-hi-in-None.ensures.left (front_of V c.in_ok-step-in-None.step.bit true) second.means in
+    let both = both_calls c.args.self.now c.project_below.new.self c.project_below-in-None.new.self c.args.keep.now V c.in_ok-step-in-None.step.bit (first_of (table c.args.self.now.arena) c.step.new.pairs.pairs.items c.in_ok-step-in-None.step.lo) (first_of (table c.project_below.new.self.arena) c.project_below.new.work.pairs.pairs.items c.in_ok-step-in-None.step.hi) c.in_ok-lo-in-None.lo c.in_ok-hi-in-None.hi is.words is.lo_far second.far lo_done hi_done in
+    subst (λ (d : ℕ). ProjectsWords c.args.self.now c.join_sides.new.self c.args.keep.now V d (Ok c.in_ok-r-in-None.r)) is.at
+    (joined_ends c.args.self.now c.project_below-in-None.new.self c.join_sides.new.self c.args.keep.now V c.in_ok-step-in-None.step.bit c.in_ok-lo-in-None.lo c.in_ok-hi-in-None.hi c.in_ok-r-in-None.r both c.in_ok-r-in-None.ensures.joined)
 
-pub returns-in_ok-remember-in-None-clause-known : goal.returns-in_ok-remember-in-None-clause-known
-returns-in_ok-remember-in-None-clause-known t c =
-    let both = both_calls c.args.self.now c.project_below.new.self c.project_below-in-None.new.self c.args.keep.now c.args.f c.sides_of-bit.result.0 c.sides_of-bit.result.1 c.sides_of-bit.result.2 c.in_ok-lo-in-None.lo c.in_ok-hi-in-None.hi (step_at c.args.self.now c.args.f c.sides_of-bit.result.0 c.sides_of-bit.result.1 c.sides_of-bit.result.2 c.sides_of-bit.ensures.reduced c.requires.f_live c.sides_of-bit.ensures.bit c.sides_of-bit.ensures.sides) c.in_ok-lo-in-None.ensures.left c.in_ok-hi-in-None.ensures.left in
-    known_puts _ c.args.keep.now c.project_below-in-None.new.done.entries c.remember.new.done.entries c.args.f c.in_ok-r-in-None.r
-    (known_grows _ _ c.args.keep.now c.project_below-in-None.new.done.entries c.join_sides.ensures.stays.grows c.in_ok-hi-in-None.ensures.known)
-    (joined_answer c.args.self.now c.project_below-in-None.new.self c.join_sides.new.self c.args.keep.now c.args.f c.sides_of-bit.result.0 c.sides_of-bit.result.1 c.sides_of-bit.result.2 c.in_ok-lo-in-None.lo c.in_ok-hi-in-None.hi c.in_ok-r-in-None.r both c.in_ok-r-in-None.ensures)
-    c.in_ok-remember-in-None.ensures
+pub returns-in_ok-remember-in-None-2-clause-work : goal.returns-in_ok-remember-in-None-2-clause-work
+returns-in_ok-remember-in-None-2-clause-work t c =
+    let is = sides_at (table c.args.self.now.arena) c.args.work.now.pairs.pairs.items c.seen.new.work.pairs.pairs.items c.step.new.pairs.pairs.items c.args.p c.in_ok-step-in-None.step c.requires.there.0 c.requires.there.1 c.in_ok-r.ensures.extends c.in_ok-step-in-None.ensures.step in
+    let lo_done = c.in_ok-lo-in-None.ensures.left (front_of c.requires.there.0 c.in_ok-step-in-None.step.bit false) is.lo_means in
+    let second = second_at (table c.args.self.now.arena) (table c.project_below.new.self.arena) c.seen.ensures.reduced lo_done.stays.grows c.args.work.now.pairs.pairs.items c.step.new.pairs.pairs.items c.project_below.new.work.pairs.pairs.items c.args.p c.in_ok-step-in-None.step c.requires.there.0 is c.in_ok-lo-in-None.ensures.extends in
+    let hi_done = c.in_ok-hi-in-None.ensures.left (front_of c.requires.there.0 c.in_ok-step-in-None.step.bit true) second.means in
+    let both = both_calls c.args.self.now c.project_below.new.self c.project_below-in-None.new.self c.args.keep.now c.requires.there.0 c.in_ok-step-in-None.step.bit (first_of (table c.args.self.now.arena) c.step.new.pairs.pairs.items c.in_ok-step-in-None.step.lo) (first_of (table c.project_below.new.self.arena) c.project_below.new.work.pairs.pairs.items c.in_ok-step-in-None.step.hi) c.in_ok-lo-in-None.lo c.in_ok-hi-in-None.hi is.words is.lo_far second.far lo_done hi_done in
+    let done = subst (λ (d : ℕ). ProjectsWords c.args.self.now c.join_sides.new.self c.args.keep.now c.requires.there.0 d (Ok c.in_ok-r-in-None.r)) is.at
+    (joined_ends c.args.self.now c.project_below-in-None.new.self c.join_sides.new.self c.args.keep.now c.requires.there.0 c.in_ok-step-in-None.step.bit c.in_ok-lo-in-None.lo c.in_ok-hi-in-None.hi c.in_ok-r-in-None.r both c.in_ok-r-in-None.ensures.joined) in
+    known_put (table c.join_sides.new.self.arena) c.project_below-in-None.new.work.pairs.pairs.items c.args.keep.now _ c.remember-in-None.new.done.entries _ _ c.args.p c.in_ok-r-in-None.r
+    (known_joined (table c.project_below-in-None.new.self.arena) (table c.join_sides.new.self.arena) c.project_below-in-None.new.work.pairs.pairs.items c.args.keep.now _ _ _ _ c.in_ok-r-in-None.ensures.joined.stays.grows c.in_ok-hi-in-None.ensures.work c.in_ok-r-in-None.ensures.known)
+    (is_projection c.args.self.now c.join_sides.new.self c.args.work.now.pairs.pairs.items c.project_below-in-None.new.work.pairs.pairs.items c.args.keep.now c.args.p c.requires.there.0 c.in_ok-r-in-None.r c.requires.there.1 (extends_then c.args.work.now.pairs.pairs.items c.project_below.new.work.pairs.pairs.items c.project_below-in-None.new.work.pairs.pairs.items (extends_then c.args.work.now.pairs.pairs.items c.seen.new.work.pairs.pairs.items c.project_below.new.work.pairs.pairs.items c.in_ok-r.ensures.extends (extends_then c.seen.new.work.pairs.pairs.items c.step.new.pairs.pairs.items c.project_below.new.work.pairs.pairs.items c.in_ok-step-in-None.ensures.extends c.in_ok-lo-in-None.ensures.extends)) c.in_ok-hi-in-None.ensures.extends) done) c.in_ok-remember-in-None-2.ensures
