@@ -15,6 +15,7 @@ use Rattle.diagram_arena.proofs.Meaning.{live_from}
 use Rattle.node_reclaim.specs.Pool.{PoolState, pins_of, times, Pins, Unpins}
 use Rattle.node_reclaim.specs.Growth.{Stays, NewAre}
 use Rattle.node_reclaim.specs.Holders.{Gains, AreHeld, MeansTheSame}
+use Rattle.node_reclaim.specs.Reclaim.{Reclaims}
 use Rattle.pin_lists.specs.Units.{PinnedAreLive, Moves, KeepsHeld, StoodBefore, AllAre, UnitsLeave, Collects}
 use Rattle.pin_lists.proofs.Counting.{times-append}
 
@@ -208,5 +209,12 @@ only_then a b c first second = second ∙ ap (λ (s : PoolState). record s { cou
 
 -- ---- collections
 
-pub collects_itself : (s : PoolState) → PinnedAreLive s → IsReduced (table s.arena) → Collects s s
-collects_itself s pinned ok = record { reduced = ok; limit = refl; counts = refl; kept = λ rs h. means_itself s rs pinned h; stood = λ i live. (i, live, λ w. refl) }
+pub collects : (a b : PoolState) → ((old new : PoolState) (rs : List Ref) → Reclaims old new → AreHeld old rs → MeansTheSame (table old.arena) (table new.arena) rs) → Reclaims a b → Collects a b
+collects a b law is = record {
+  reduced = is.reduced;
+  limit = is.limit;
+  counts = is.counts;
+  kept = λ rs h. law a b rs is h;
+  stood = λ i live. (i, is.means.live (Node i) live, is.means.words (Node i) live);
+  swept = is.only;
+}

@@ -8,6 +8,7 @@ use Rattle.diagram_arena.specs.Table.{Word, Words, Table, has, IsLive, IsReduced
 use Rattle.diagram_arena.specs.Arena.{table}
 use Rattle.node_reclaim.specs.Pool.{PoolState, pins_of, times}
 use Rattle.node_reclaim.specs.Holders.{AreHeld, MeansTheSame}
+use Rattle.node_reclaim.specs.Reclaim.{IsReached}
 
 -- each pinned node is there
 abbrev pub PinnedAreLive : PoolState → Type 0
@@ -37,10 +38,11 @@ pub record UnitsLeave (P : Words → Type 0) (old new : PoolState) (before after
   pub kept : KeepsHeld old new before
   pub sets : AllAre (table old.arena) (table new.arena) P
 
--- what a collection leaves
+-- what a collection leaves: of what was there just the nodes that pins reach
 pub record Collects (old new : PoolState) : Type 0 where
   pub reduced : IsReduced (table new.arena)
   pub limit : new.arena.limit ≡ old.arena.limit
   pub counts : new.counts ≡ old.counts
   pub kept : (rs : List Ref) → AreHeld old rs → MeansTheSame (table old.arena) (table new.arena) rs
   pub stood : (i : NodeId) → IsLive (table new.arena) (Node i) → StoodBefore (table old.arena) (has (table new.arena) (Node i))
+  pub swept : (i : NodeId) → IsLive (table new.arena) (Node i) → IsReached old i

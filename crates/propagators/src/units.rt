@@ -225,9 +225,9 @@ fn made_diagram(
     layout.obeys_order();
     let _ = ops.pool();
     ops.begin_unit();
-    let r = constraint_diagram(alloc, ops, layout, p, c)?;
-    pins.hold(ops, r)?;
-    Ok(r)
+    let diagram = constraint_diagram(alloc, ops, layout, p, c)?;
+    pins.hold(ops, diagram)?;
+    Ok(diagram)
 }
 
 /// Appends the item, which is dropped where memory is wanted.
