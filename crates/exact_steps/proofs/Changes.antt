@@ -1,5 +1,5 @@
 -- Projections to the variables of the scope, one after another.
-use Rattle.std.proofs.Common.{◌≡◌, ◌⊎◌, ℕ, ◌+◌, ◌<◌, List, [], ◌∷◌, ◌++◌, length, get_or, take, Some, refl, sym, ap, ◌∙◌, subst, inl, inr, arith, Contains}
+use Rattle.std.proofs.Common.{◌≡◌, ◌≢◌, ◌⊎◌, ℕ, ◌+◌, ◌<◌, List, [], ◌∷◌, ◌++◌, length, get_or, take, Some, refl, sym, ap, ◌∙◌, subst, inl, inr, arith, Contains}
 use Rattle.std.specs.Prelude.{slice_get}
 use Rattle.std.specs.declared.cmp.Ordering.{Ordering}
 use Rattle.std.specs.declared.cmp.Ordering.TheVariants.{Less}
@@ -23,7 +23,7 @@ use Rattle.diagram_ops.specs.Words.{IsProjection, IsPartOfProjection, NewArePart
 use Rattle.diagram_ops.proofs.Steps.{stays_self, stays_then, no_news, news_then}
 use Rattle.scope_words.specs.Words.{bits_at}
 use Rattle.exact_steps.specs.Steps.{narrowed_in}
-use Rattle.exact_steps.specs.Work.{IsProjectedPart, NewAreProjected, AreLive, IsChanged, AreChanged, IsProjecting, Keeps}
+use Rattle.exact_steps.specs.Work.{IsProjectedPart, NewAreProjected, IsChanged, AreChanged, IsProjecting, IsLookedAt}
 use Rattle.exact_steps.proofs.Values.{same_some}
 use Rattle.exact_steps.proofs.Readings.{one_of}
 use Rattle.exact_steps.proofs.Wanted.{words_grow}
@@ -72,16 +72,16 @@ in_narrowed (e ∷ es) v h =
 more : (scope : List VarId) (i : ℕ) (v : VarId) → i < length scope → get_or scope i v ≡ v → take (i + 1) scope ≡ take i scope ++ v ∷ []
 more scope i v within at = take_more scope i v within ∙ ap (λ z. take i scope ++ z ∷ []) at
 
-pub first_projecting : (l : LayoutState) (scope : List VarId) (join : Ref) (domains : List Ref) (s : PoolState) → IsReduced (table s.arena) → IsProjecting l scope join domains s 0 s []
+pub first_projecting : (l : LayoutState) (scope : List VarId) (V : Words) (domains : List Ref) (s : PoolState) → IsReduced (table s.arena) → IsProjecting l scope V domains s 0 s []
 unfolding IsStrictlySortedBy
-first_projecting l scope join domains s ok = record {
+first_projecting l scope V domains s ok = record {
   found = record {
     ascending = tt;
     each = λ v r none. absurd (nothing_in_empty (v, r) none);
     others = λ v none. absurd (nothing_in_empty v none);
   };
   stays = stays_self s ok;
-  parts = no_news (table s.arena) (IsProjectedPart l scope (has (table s.arena) join));
+  parts = no_news (table s.arena) (IsProjectedPart l scope V);
 }
 
 projection_grows : (t u : Table) (bits : List ℕ) (V : Words) (r : Ref) → Grows t u → IsLive t r → IsProjection (among bits) V (has t r) → IsProjection (among bits) V (has u r)
@@ -96,72 +96,71 @@ changed_grows l vs ws domains V t u v r grows among is = record {
   other = is.other;
 }
 
--- after one more projection, whatever came of it
-pub projecting_leaves : (l : LayoutState) (scope : List VarId) (join : Ref) (domains : List Ref) (s a b : PoolState) (i : ℕ) (kept : List (VarId × Ref)) (v : VarId) (bits : List ℕ) → IsLive (table s.arena) join
-    → i < length scope → get_or scope i v ≡ v → bits ≡ bits_at l v → IsProjecting l scope join domains s i a kept → Stays a b
-    → NewArePartsOfProjections (table a.arena) (table b.arena) (among bits) (has (table a.arena) join)
-    → Stays s b × NewAreProjected l scope (has (table s.arena) join) (table s.arena) (table b.arena)
-projecting_leaves l scope join domains s a b i kept v bits live within at same before stays parts =
-    let V : Words = has (table s.arena) join in
-    let old : has (table a.arena) join ≡ V = words_grow (table s.arena) (table a.arena) before.stays.grows join live in (
-      stays_then s a b before.stays stays,
-      news_then (table s.arena) (table a.arena) (table b.arena) (IsProjectedPart l scope V) stays.grows before.parts (λ n none there. record {
-        variable = v;
-        scoped = subst (Contains scope) at (Contains-get_or scope i v within);
-        part = subst (λ X. IsPartOfProjection (among (bits_at l v)) (has (table b.arena) (Node n)) X) old
-            (subst (λ bits. IsPartOfProjection (among bits) (has (table b.arena) (Node n)) (has (table a.arena) join)) same (parts n none there));
-      }),
-    )
+-- after one more variable was looked at, whatever came of it; now is V in the table at that moment
+pub projecting_leaves : (l : LayoutState) (scope : List VarId) (V now : Words) (domains : List Ref) (s a b : PoolState) (i : ℕ) (kept : List (VarId × Ref)) (v : VarId)
+    → i < length scope → get_or scope i v ≡ v → now ≡ V → IsProjecting l scope V domains s i a kept → Stays a b
+    → NewArePartsOfProjections (table a.arena) (table b.arena) (among (bits_at l v)) now
+    → Stays s b × NewAreProjected l scope V (table s.arena) (table b.arena)
+projecting_leaves l scope V now domains s a b i kept v within at same before stays parts = (
+  stays_then s a b before.stays stays,
+  news_then (table s.arena) (table a.arena) (table b.arena) (IsProjectedPart l scope V) stays.grows before.parts (λ n none there. record {
+    variable = v;
+    scoped = subst (Contains scope) at (Contains-get_or scope i v within);
+    part = subst (λ X. IsPartOfProjection (among (bits_at l v)) (has (table b.arena) (Node n)) X) same (parts n none there);
+  }),
+)
 
-pub next_projecting : (l : LayoutState) (scope : List VarId) (join : Ref) (domains : List Ref) (s a b : PoolState) (i : ℕ) (kept new : List (VarId × Ref)) (v : VarId) (bits : List ℕ) (r : Ref) → IsStrictlySortedBy order scope
-    → IsLive (table s.arena) join → AreLive (table s.arena) domains
-    → i < length scope → get_or scope i v ≡ v → bits ≡ bits_at l v → IsProjecting l scope join domains s i a kept → Stays a b
-    → NewArePartsOfProjections (table a.arena) (table b.arena) (among bits) (has (table a.arena) join)
-    → IsLive (table b.arena) r → IsProjection (among bits) (has (table a.arena) join) (has (table b.arena) r) → Keeps kept new domains v r → IsProjecting l scope join domains s (i + 1) b new
-next_projecting l scope join domains s a b i kept new v bits r up live lives within at same before stays parts r_live r_words keeps =
-    let V : Words = has (table s.arena) join in
-    let old : has (table a.arena) join ≡ V = words_grow (table s.arena) (table a.arena) before.stays.grows join live in
-    let words : IsProjection (among (bits_at l v)) V (has (table b.arena) r) =
-    subst (λ X. IsProjection (among (bits_at l v)) X (has (table b.arena) r)) old (subst (λ bits. IsProjection (among bits) (has (table a.arena) join) (has (table b.arena) r)) same r_words) in
-    let left = projecting_leaves l scope join domains s a b i kept v bits live within at same before stays parts in
+pub next_projecting : (l : LayoutState) (scope : List VarId) (V now : Words) (domains : List Ref) (s a b : PoolState) (i : ℕ) (kept new : List (VarId × Ref)) (v : VarId) (d : Ref) → IsStrictlySortedBy order scope
+    → ((n : ℕ) (d : Ref) → slice_get domains n ≡ Some d → IsLive (table s.arena) d)
+    → i < length scope → get_or scope i v ≡ v → slice_get domains v.0 ≡ Some d → now ≡ V → IsProjecting l scope V domains s i a kept → Stays a b
+    → NewArePartsOfProjections (table a.arena) (table b.arena) (among (bits_at l v)) now → IsLookedAt l d now (table b.arena) kept new v → IsProjecting l scope V domains s (i + 1) b new
+next_projecting l scope V now domains s a b i kept new v d up lives within at domain same before stays parts looked =
+    let left = projecting_leaves l scope V now domains s a b i kept v within at same before stays parts in
     let P : List VarId → Type 0 = λ vs. AreChanged l vs domains V (table b.arena) new in record {
-      found = subst P (sym (more scope i v within at)) (changed (take i scope ++ v ∷ []) words (λ x h. Contains-append_left (take i scope) (v ∷ []) x h) (λ x h. Contains-append_cases (take i scope) (v ∷ []) x h) (Contains-append_right (take i scope) (v ∷ []) v (in_head v [])));
+      found = subst P (sym (more scope i v within at)) (changed (take i scope ++ v ∷ []) (λ x h. Contains-append_left (take i scope) (v ∷ []) x h) (λ x h. Contains-append_cases (take i scope) (v ∷ []) x h) (Contains-append_right (take i scope) (v ∷ []) v (in_head v []))
+          (subst (λ X. IsLookedAt l d X (table b.arena) kept new v) same looked));
       stays = left.0;
       parts = left.1;
     }
   where
-    changed : (vs : List VarId) → IsProjection (among (bits_at l v)) (has (table s.arena) join) (has (table b.arena) r) → ((x : VarId) → Contains (take i scope) x → Contains vs x)
-        → ((x : VarId) → Contains vs x → (Contains (take i scope) x ⊎ Contains (v ∷ []) x)) → Contains vs v → AreChanged l vs domains (has (table s.arena) join) (table b.arena) new
-    changed vs words into from here = elim keeps [
-      | inl same_list ↦ record {
-        ascending = subst (λ ks. IsStrictlySortedBy order (narrowed_in ks)) (sym same_list.0) before.found.ascending;
-        each = λ u q h. changed_grows l (take i scope) vs domains (has (table s.arena) join) (table a.arena) (table b.arena) u q stays.grows into
-            (before.found.each u q (subst (λ ks. Contains ks (u, q)) same_list.0 h));
-        others = λ u h none d e. elim (from u h) [
-          | inl earlier ↦ projection_grows (table a.arena) (table b.arena) (bits_at l u) (has (table s.arena) join) d stays.grows (before.stays.grows.live d (lives u.0 d e))
-              (before.found.others u earlier (λ k. none (subst (λ ks. Contains (narrowed_in ks) u) (sym same_list.0) k)) d e)
+    of_domain : (P : Ref → Type 0) (u : VarId) (q : Ref) → v ≡ u → slice_get domains u.0 ≡ Some q → P d → P q
+    of_domain P u q w e h = subst P (same_some (slice_get domains v.0) d q domain (subst (λ (x : VarId). slice_get domains x.0 ≡ Some q) (sym w) e)) h
+
+    changed : (vs : List VarId) → ((x : VarId) → Contains (take i scope) x → Contains vs x)
+        → ((x : VarId) → Contains vs x → (Contains (take i scope) x ⊎ Contains (v ∷ []) x)) → Contains vs v → IsLookedAt l d V (table b.arena) kept new v → AreChanged l vs domains V (table b.arena) new
+    changed vs into from here looked = elim looked [
+      | inl stood ↦ record {
+        ascending = subst (λ ks. IsStrictlySortedBy order (narrowed_in ks)) (sym stood.0) before.found.ascending;
+        each = λ u q h. changed_grows l (take i scope) vs domains V (table a.arena) (table b.arena) u q stays.grows into
+            (before.found.each u q (subst (λ ks. Contains ks (u, q)) stood.0 h));
+        others = λ u h none q e. elim (from u h) [
+          | inl earlier ↦ projection_grows (table a.arena) (table b.arena) (bits_at l u) V q stays.grows (before.stays.grows.live q (lives u.0 q e))
+              (before.found.others u earlier (λ k. none (subst (λ ks. Contains (narrowed_in ks) u) (sym stood.0) k)) q e)
           | inr one ↦
               let w : v ≡ u = one_of v u one in
-              let e' : slice_get domains v.0 ≡ Some d = subst (λ x. slice_get domains x.0 ≡ Some d) (sym w) e in
-              let rd : r ≡ d = same_some (slice_get domains v.0) r d same_list.1 e' in
-              subst (λ x. IsProjection (among (bits_at l x)) (has (table s.arena) join) (has (table b.arena) d)) w (subst (λ q. IsProjection (among (bits_at l v)) (has (table s.arena) join) (has (table b.arena) q)) rd words)
+              subst (λ (x : VarId). IsProjection (among (bits_at l x)) V (has (table b.arena) q)) w (of_domain (λ r. IsProjection (among (bits_at l v)) V (has (table b.arena) r)) u q w e stood.1)
         ];
       }
       | inr pushed ↦ record {
-        ascending = subst (λ ks. IsStrictlySortedBy order (narrowed_in ks)) (sym pushed.0) (subst (IsStrictlySortedBy order) (sym (split_map kept v r))
+        ascending = subst (λ ks. IsStrictlySortedBy order (narrowed_in ks)) (sym pushed.1) (subst (IsStrictlySortedBy order) (sym (split_map kept v pushed.0))
             (sorted_end (narrowed_in kept) v before.found.ascending (λ u h. let k = in_narrowed kept u h in earlier_less scope i u v up within at (before.found.each u k.0 k.1).scoped)));
-        each = λ u q h. elim (Contains-append_cases kept ((v, r) ∷ []) (u, q) (subst (λ ks. Contains ks (u, q)) pushed.0 h)) [
-          | inl earlier ↦ changed_grows l (take i scope) vs domains (has (table s.arena) join) (table a.arena) (table b.arena) u q stays.grows into (before.found.each u q earlier)
+        each = λ u q h. elim (Contains-append_cases kept ((v, pushed.0) ∷ []) (u, q) (subst (λ ks. Contains ks (u, q)) pushed.1 h)) [
+          | inl earlier ↦ changed_grows l (take i scope) vs domains V (table a.arena) (table b.arena) u q stays.grows into (before.found.each u q earlier)
           | inr one ↦
-              elim (in_cons (v, r) [] (u, q) one) [
-                | inl e ↦ subst (λ (x : VarId × Ref). IsChanged l vs domains (has (table s.arena) join) (table b.arena) x.0 x.1) e (record { scoped = here; live = r_live; words = words; other = pushed.1 })
+              elim (in_cons (v, pushed.0) [] (u, q) one) [
+                | inl e ↦ subst (λ (x : VarId × Ref). IsChanged l vs domains V (table b.arena) x.0 x.1) e (record {
+                  scoped = here;
+                  live = pushed.2;
+                  words = pushed.3;
+                  other = λ q e'. of_domain (λ (r : Ref). pushed.0 ≢ r) v q refl e' pushed.4;
+                })
                 | inr nothing ↦ absurd (nothing_in_empty (u, q) nothing)
               ]
         ];
-        others = λ u h none d e. elim (from u h) [
-          | inl earlier ↦ projection_grows (table a.arena) (table b.arena) (bits_at l u) (has (table s.arena) join) d stays.grows (before.stays.grows.live d (lives u.0 d e))
-              (before.found.others u earlier (λ k. none (subst (λ ks. Contains (narrowed_in ks) u) (sym pushed.0) (subst (λ vs. Contains vs u) (sym (split_map kept v r)) (Contains-append_left (narrowed_in kept) (v ∷ []) u k)))) d e)
-          | inr one ↦ absurd (none (subst (λ ks. Contains (narrowed_in ks) u) (sym pushed.0) (subst (λ vs. Contains vs u) (sym (split_map kept v r)) (Contains-append_right (narrowed_in kept) (v ∷ []) u one))))
+        others = λ u h none q e. elim (from u h) [
+          | inl earlier ↦ projection_grows (table a.arena) (table b.arena) (bits_at l u) V q stays.grows (before.stays.grows.live q (lives u.0 q e))
+              (before.found.others u earlier (λ k. none (subst (λ ks. Contains (narrowed_in ks) u) (sym pushed.1) (subst (λ vs. Contains vs u) (sym (split_map kept v pushed.0)) (Contains-append_left (narrowed_in kept) (v ∷ []) u k)))) q e)
+          | inr one ↦ absurd (none (subst (λ ks. Contains (narrowed_in ks) u) (sym pushed.1) (subst (λ vs. Contains vs u) (sym (split_map kept v pushed.0)) (Contains-append_right (narrowed_in kept) (v ∷ []) u one))))
         ];
       }
     ]

@@ -26,7 +26,6 @@ use Rattle.exact_steps.specs.declared.steps.StepResult.TheVariants as step
 use Rattle.exact_steps.specs.Domains.{variable, is_initial, word_of_value, values_in, AreDomains, family}
 use Rattle.exact_steps.specs.Steps.{IsInDiagram, IsSupport, Extends, IsViolated, IsSatisfiable, AllExtend, IsNarrowed, IsStepOf}
 use Rattle.exact_steps.specs.Parts.{Within, IsWanted, NewAreWanted}
-use Rattle.exact_steps.specs.Parts.IsWanted.{of_join, of_projection}
 use Rattle.exact_steps.specs.Rules.{listed, IsConstraintOf}
 use Rattle.exact_steps.proofs.Values.{some_and, some_and_from, same_some, both_are, both_from}
 use Rattle.exact_steps.proofs.Readings.{gives_own, gives_initial}
@@ -34,15 +33,6 @@ use Rattle.exact_steps.proofs.Sets.{values_sound, values_whole}
 use Rattle.exact_steps.proofs.Wanted.{family_at, values_grow}
 
 -- a variable among the first ones
-in_front : (count : ℕ) (scope : List VarId) (v : VarId) → Contains (take count scope) v → Contains scope v
-in_front count scope v h =
-    let k : ℕ = h.0 in
-    let short : k < length (take count scope) = h.1 in
-    let long = length-take count scope in
-    let below : k < count = omega (arith, short, long) in
-    let within : k < length scope = omega (arith, short, long) in
-    (k, within, sym (get_or-take count scope k v below) ∙ h.2)
-
 -- ---- the condition that a diagram states
 
 module _ (l : LayoutState) (scope : List VarId) (C : List Value → Type 0) (t : Table) (r : Ref) (ok : IsLayout l) (known : All (λ v. v.0 < length l.kinds) scope) (is : IsDiagramOf l scope C t r) where
@@ -121,8 +111,15 @@ module _ (l : LayoutState) (scope : List VarId) (C : List Value → Type 0) (t :
   }
 
   wanted_to : (f : ℕ → Value → Bool) (W : Words) → IsWanted l scope (IsInDiagram l t r) f W → IsWanted l scope C f W
-  wanted_to f W (of_join count V words part) = of_join count V (words_to f (take count scope) V (λ v k. in_front count scope v k) words) part
-  wanted_to f W (of_projection v bits V scoped are words part) = of_projection v bits V scoped are (words_to f scope V (λ v k. k) words) part
+  wanted_to f W h = record {
+    variable = h.variable;
+    bits = h.bits;
+    set = h.set;
+    scoped = h.scoped;
+    bits_are = h.bits_are;
+    words = words_to f scope h.set (λ v k. k) h.words;
+    part = h.part;
+  }
 
   pub news_to : (f : ℕ → Value → Bool) (old new : Table) → NewAreWanted l scope (IsInDiagram l t r) f old new → NewAreWanted l scope C f old new
   news_to f old new news i none live = wanted_to f (has new (Node i)) (news i none live)

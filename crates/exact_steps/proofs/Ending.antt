@@ -1,4 +1,4 @@
--- From the join and its projections to what the step answers.
+-- From the projections to what the step answers.
 use Rattle.std.proofs.Common.{◌≡◌, ◌≢◌, ◌⊎◌, ℕ, ◌<◌, Bool, true, false, List, [], ◌∷◌, length, get_or, arith, Option, Some, sym, ap, ◌∙◌, subst, inl, inr, Contains}
 use Rattle.std.specs.Prelude.{slice_get}
 use Rattle.std.specs.Option.{option_map_or}
@@ -19,13 +19,9 @@ use Rattle.diagram_arena.specs.declared.nodes.Ref.TheVariants.{Zero}
 use Rattle.diagram_arena.specs.Table.{Word, Words, Table, has, IsLive, IsReduced}
 use Rattle.diagram_arena.specs.Reach.{among}
 use Rattle.diagram_arena.specs.Arena.{table, Grows}
-use Rattle.diagram_arena.proofs.Meaning.{has-zero}
 use Rattle.diagram_arena.proofs.Canonical.{canonical}
 use Rattle.node_reclaim.specs.Pool.{PoolState}
-use Rattle.node_reclaim.specs.Growth.{Stays}
-use Rattle.diagram_ops.specs.Words.{IsProjection}
-use Rattle.diagram_ops.proofs.Insides.{has_word}
-use Rattle.diagram_ops.proofs.Steps.{stays_self, stays_then}
+use Rattle.diagram_ops.specs.Words.{HasNone, HasSome, product_of, IsProjection}
 use Rattle.search_rules.specs.Family.{Leaves as Leaving, HasValue}
 use Rattle.scope_words.specs.Words.{bits_at, word_of_values, AreWordsOf, IsDiagramOf}
 use Rattle.scope_words.proofs.Words.{assignment_given}
@@ -34,12 +30,12 @@ use Rattle.exact_steps.specs.declared.steps.StepResult.TheVariants as step
 use Rattle.exact_steps.specs.Domains.{variable, AtVariable, is_initial, word_of_value, values_in, AreDomains}
 use Rattle.exact_steps.specs.Steps.{Extends, IsViolated, IsSatisfiable, AllExtend, IsNarrowed, narrowed_in, AreNarrowed, IsStepOf}
 use Rattle.exact_steps.specs.Parts.{Within, NewAreWanted}
-use Rattle.exact_steps.specs.Parts.IsWanted.{of_projection}
-use Rattle.exact_steps.specs.Work.{Leaves, stated, given, IsJoined, AreLive, NewAreProjected, IsChanged, AreChanged, IsProjecting}
+use Rattle.exact_steps.specs.Work.{stated, given, domains_at, NewAreProjected, IsChanged, AreChanged, IsProjecting}
 use Rattle.exact_steps.specs.Answers.{IsAnswer}
 use Rattle.exact_steps.proofs.Values.{some_and, some_and_from, same_some, same_truth, both_are, both_from, initial_kind, kind_values}
 use Rattle.exact_steps.proofs.Sets.{values_sound, values_whole, own_words, extending_words}
-use Rattle.exact_steps.proofs.Wanted.{bits_of_one, leaves_then, family_at, family_words}
+use Rattle.exact_steps.proofs.Wanted.{grows_itself, bits_of_one, family_at, family_words}
+use Rattle.exact_steps.proofs.Products.{product_words}
 
 -- ---- a value of one test that is not of another
 
@@ -180,50 +176,55 @@ module _ (l : LayoutState) (scope : List VarId) (C : List Value → Type 0) (f :
 pub projections_wanted : (l : LayoutState) (scope : List VarId) (C : List Value → Type 0) (f : ℕ → Value → Bool) (V : Words) (a b : Table) → IsLayout l → AreWordsOf l scope (Within C f scope) V
     → NewAreProjected l scope V a b → NewAreWanted l scope C f a b
 projections_wanted l scope C f V a b ok words news i none live =
-    let r = news i none live in of_projection r.variable (bits_at l r.variable) V r.scoped (bits_of_one l r.variable ok) words r.part
+    let r = news i none live in record {
+      variable = r.variable;
+      bits = bits_at l r.variable;
+      set = V;
+      scoped = r.scoped;
+      bits_are = bits_of_one l r.variable ok;
+      words = words;
+      part = r.part;
+    }
 
 -- ---- the step
 
-pub step_task : (l : LayoutState) (scope : List VarId) (constraint : Ref) (domains : List Ref) (s a b : PoolState) (join : Ref) → IsLayout l → All (λ v. v.0 < length l.kinds) scope → AreDomains l (table s.arena) domains
-    → IsJoined l scope constraint domains s (length scope) a join → Stays a b → Task l scope (stated l s constraint) (given l s domains) domains (table b.arena) (has (table a.arena) join)
-step_task l scope constraint domains s a b join ok known are joined stays = record {
-  layout = ok;
-  known = known;
-  reduced = stays.reduced;
-  words = subst (λ vs. AreWordsOf l scope (Within (stated l s constraint) (given l s domains) vs) (has (table a.arena) join)) (take-length scope) joined.diagram.words;
-  diagrams = λ v d e. family_words l (table s.arena) (table b.arena) domains v d (stays_then s a b joined.leaves.stays stays).grows are e;
-  values = λ v x scoped h.
-      let d = there v scoped in
-      (both_are (is_initial l v x) (has (table s.arena) d.0 (word_of_value l v x)) (subst (λ D. D x ≡ true) (family_at l (table s.arena) domains v d.0 d.1) h)).0;
-  there = there;
-}
-  where
-    there : (v : VarId) → Contains scope v → (d : Ref) × (slice_get domains v.0 ≡ Some d)
-    there v scoped =
-        let within : v.0 < length l.kinds = All-contains (λ (v : VarId). v.0 < length l.kinds) scope v known scoped in
-        let long = are.long in
-        (get_or domains v.0 Zero, slice_get-get_or domains v.0 Zero (omega (arith, within, long)))
+pub domains_long : (l : LayoutState) (scope : List VarId) (domains : List Ref) (t : Table) → AreDomains l t domains → All (λ v. v.0 < length l.kinds) scope → All (λ v. v.0 < length domains) scope
+domains_long l scope domains t are known = subst (λ n. All (λ (v : VarId). v.0 < n) scope) (sym are.long) known
 
-pub empty_answer : (l : LayoutState) (scope : List VarId) (constraint : Ref) (domains : List Ref) (s a : PoolState) (join : Ref) → IsLayout l → All (λ v. v.0 < length l.kinds) scope → AreDomains l (table s.arena) domains
-    → IsJoined l scope constraint domains s (length scope) a join → join ≡ Zero → IsViolated l scope (stated l s constraint) (given l s domains)
-empty_answer l scope constraint domains s a join ok known are joined zero =
-    violated l scope (stated l s constraint) (given l s domains) domains (table a.arena) (has (table a.arena) join)
-    (step_task l scope constraint domains s a a join ok known are joined (stays_self a joined.leaves.stays.reduced)) (λ w. ap (λ r. has (table a.arena) r w) zero ∙ has-zero (table a.arena) w)
+module _ (l : LayoutState) (scope : List VarId) (constraint : Ref) (domains own : List Ref) (s : PoolState) (ok : IsLayout l) (known : All (λ v. v.0 < length l.kinds) scope)
+    (is : IsDiagramOf l scope (stated l s constraint) (table s.arena) constraint) (are : AreDomains l (table s.arena) domains) (listed : own ≡ domains_at domains scope) where
+  there : (v : VarId) → Contains scope v → (d : Ref) × (slice_get domains v.0 ≡ Some d)
+  there v scoped =
+      let within : v.0 < length l.kinds = All-contains (λ (v : VarId). v.0 < length l.kinds) scope v known scoped in
+      let long = are.long in
+      (get_or domains v.0 Zero, slice_get-get_or domains v.0 Zero (omega (arith, within, long)))
 
-pub end_answer : (l : LayoutState) (scope : List VarId) (constraint : Ref) (domains : List Ref) (s a b : PoolState) (join : Ref) (kept : List (VarId × Ref)) (o : StepResult) → IsLayout l
-    → All (λ v. v.0 < length l.kinds) scope → AreDomains l (table s.arena) domains → IsJoined l scope constraint domains s (length scope) a join → (join ≡ Zero → ⊥)
-    → IsProjecting l scope join domains a (length scope) b kept → IsAnswer kept o → IsStepOf l scope (stated l s constraint) (given l s domains) (table b.arena) o
-end_answer l scope constraint domains s a b join kept o ok known are joined some is h =
-    let w : (w : Word) × (has (table a.arena) join w ≡ true) = elim (has_word (table a.arena) joined.leaves.stays.reduced join joined.diagram.live) [ inl zero ↦ absurd (some zero) | inr w ↦ w ] in
-    answered l scope (stated l s constraint) (given l s domains) domains (table b.arena) (has (table a.arena) join) (step_task l scope constraint domains s a b join ok known are joined is.stays) kept o w
-    (subst (λ vs. AreChanged l vs domains (has (table a.arena) join) (table b.arena) kept) (take-length scope) is.found) h
+  words : AreWordsOf l scope (Within (stated l s constraint) (given l s domains) scope) (product_of (table s.arena) constraint own)
+  words = product_words l scope constraint domains own s ok there is are listed
 
-pub end_leaves : (l : LayoutState) (scope : List VarId) (constraint : Ref) (domains : List Ref) (s a b : PoolState) (join : Ref) → IsLayout l → IsJoined l scope constraint domains s (length scope) a join → Stays a b
-    → NewAreProjected l scope (has (table a.arena) join) (table a.arena) (table b.arena) → Leaves l scope (stated l s constraint) (given l s domains) s b
-end_leaves l scope constraint domains s a b join ok joined stays news =
-    leaves_then l scope (stated l s constraint) (given l s domains) s a b joined.leaves stays
-    (projections_wanted l scope (stated l s constraint) (given l s domains) (has (table a.arena) join) (table a.arena) (table b.arena) ok
-    (subst (λ vs. AreWordsOf l scope (Within (stated l s constraint) (given l s domains) vs) (has (table a.arena) join)) (take-length scope) joined.diagram.words) news)
+  task : (b : Table) → IsReduced b → Grows (table s.arena) b → Task l scope (stated l s constraint) (given l s domains) domains b (product_of (table s.arena) constraint own)
+  task b reduced grows = record {
+    layout = ok;
+    known = known;
+    reduced = reduced;
+    words = words;
+    diagrams = λ v d e. family_words l (table s.arena) b domains v d grows are e;
+    values = λ v x scoped h.
+        let d = there v scoped in
+        (both_are (is_initial l v x) (has (table s.arena) d.0 (word_of_value l v x)) (subst (λ D. D x ≡ true) (family_at l (table s.arena) domains v d.0 d.1) h)).0;
+    there = there;
+  }
 
-pub live_domains : (l : LayoutState) (domains : List Ref) (t u : Table) → Grows t u → AreDomains l t domains → AreLive u domains
-live_domains l domains t u grows are n d e = grows.live d (are.each (variable n) d e).diagram.live
+  pub empty_answer : IsReduced (table s.arena) → HasNone (product_of (table s.arena) constraint own) → IsViolated l scope (stated l s constraint) (given l s domains)
+  empty_answer reduced none =
+      violated l scope (stated l s constraint) (given l s domains) domains (table s.arena) (product_of (table s.arena) constraint own) (task (table s.arena) reduced (grows_itself (table s.arena))) none
+
+  pub end_answer : (b : PoolState) (kept : List (VarId × Ref)) (o : StepResult) → HasSome (product_of (table s.arena) constraint own)
+      → IsProjecting l scope (product_of (table s.arena) constraint own) domains s (length scope) b kept → IsAnswer kept o → IsStepOf l scope (stated l s constraint) (given l s domains) (table b.arena) o
+  end_answer b kept o some at_end h =
+      answered l scope (stated l s constraint) (given l s domains) domains (table b.arena) (product_of (table s.arena) constraint own)
+      (task (table b.arena) at_end.stays.reduced at_end.stays.grows) kept o some
+      (subst (λ vs. AreChanged l vs domains (product_of (table s.arena) constraint own) (table b.arena) kept) (take-length scope) at_end.found) h
+
+  pub end_parts : (b : Table) → NewAreProjected l scope (product_of (table s.arena) constraint own) (table s.arena) b → NewAreWanted l scope (stated l s constraint) (given l s domains) (table s.arena) b
+  end_parts b news = projections_wanted l scope (stated l s constraint) (given l s domains) (product_of (table s.arena) constraint own) (table s.arena) b ok words news

@@ -2,6 +2,7 @@ pub mod Values
 pub mod Readings
 pub mod Sets
 pub mod Wanted
+pub mod Products
 pub mod Changes
 pub mod Ending
 pub mod Constraints

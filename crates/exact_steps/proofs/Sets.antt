@@ -1,4 +1,4 @@
--- Sets of words of what satisfies a condition: of one variable, with one more domain, and projected to a variable.
+-- Sets of words of what satisfies a condition: of one variable, and projected to a variable.
 use Rattle.std.proofs.Common.{◌≡◌, ℕ, ◌<◌, Bool, true, false, ◌&&◌, List, [], ◌∷◌, ◌++◌, length, get_or, Some, sym, ap, ◌∙◌, subst, inl, inr, Contains}
 use Rattle.std.specs.Prelude.{slice_get, IsSomeAnd}
 use Rattle.std.specs.List.{All}
@@ -79,37 +79,6 @@ own_words l v C V ok words = record {
       let here = given_at l (v ∷ []) values w v given (in_head v []) in
       let same : here.0 ≡ at.0 = same_some (slice_get values v.0) here.0 at.0 here.1 at.1 in
       words.whole w r.0 (gives_value l v r.0 at.0 w r.2 (subst (IsValueAt l v (read l v w)) same here.2)) r.3;
-}
-
--- ---- one more domain
-
-pub within_more : (f : ℕ → Value → Bool) (vs : List VarId) (v : VarId) (values : List Value) → AreWithin f vs values → AtVariable v (λ x. f v.0 x ≡ true) values → AreWithin f (vs ++ v ∷ []) values
-within_more f vs v values before at u h =
-    elim (Contains-append_cases vs (v ∷ []) u h) [
-      | inl earlier ↦ before u earlier
-      | inr one ↦ subst (λ (u : VarId). AtVariable u (λ x. f u.0 x ≡ true) values) (one_of v u one) at
-    ]
-
-pub join_words : (l : LayoutState) (scope : List VarId) (C : List Value → Type 0) (f : ℕ → Value → Bool) (vs : List VarId) (v : VarId) (V D : Words) → IsLayout l → Contains scope v
-    → AreWordsOf l scope (Within C f vs) V → AreWordsOf l (v ∷ []) (AtVariable v (λ x. f v.0 x ≡ true)) D → AreWordsOf l scope (Within C f (vs ++ v ∷ [])) (both V D)
-join_words l scope C f vs v V D ok scoped joined domain = record {
-  sound = λ w h.
-      let two = both_are (V w) (D w) h in
-      let r = joined.sound w two.0 in
-      let s = domain.sound w two.1 in
-      let same : slice_get s.0 v.0 ≡ slice_get r.0 v.0 = given_once l (v ∷ []) s.0 r.0 w v ok s.2 (gives_one l scope r.0 w v r.2 scoped) (in_head v []) in
-      (r.0, r.1, r.2, (r.3.0, within_more f vs v r.0 r.3.1 (subst (λ o. IsSomeAnd o (λ x. f v.0 x ≡ true)) same s.3)));
-  whole = λ w values given h.
-      both_from (V w) (D w)
-      (joined.whole w values given (h.0, λ u earlier. h.1 u (Contains-append_left vs (v ∷ []) u earlier)))
-      (domain.whole w values (gives_one l scope values w v given scoped) (h.1 v (Contains-append_right vs (v ∷ []) v (in_head v []))));
-}
-
--- before the first domain
-pub no_domains : (l : LayoutState) (scope : List VarId) (C : List Value → Type 0) (f : ℕ → Value → Bool) (V : Words) → AreWordsOf l scope C V → AreWordsOf l scope (Within C f []) V
-no_domains l scope C f V words = record {
-  sound = λ w h. let r = words.sound w h in (r.0, r.1, r.2, (r.3, λ u none. absurd (nothing_in_empty u none)));
-  whole = λ w values given h. words.whole w values given h.0;
 }
 
 -- ---- the projection to a variable

@@ -1,5 +1,5 @@
--- The step's sets: which bits their parts reach, and what is left by one call after another.
-use Rattle.std.proofs.Common.{◌≡◌, ℕ, ◌+◌, ◌<◌, Bool, true, ◌&&◌, List, [], ◌∷◌, ◌++◌, length, get_or, take, Some, sym, ap, ◌∙◌, subst, arith, Contains}
+-- The step's sets: which bits their parts reach. Domains in tables that grow.
+use Rattle.std.proofs.Common.{◌≡◌, ℕ, ◌+◌, ◌<◌, Bool, true, ◌&&◌, List, [], ◌∷◌, ◌++◌, length, get_or, Some, refl, sym, ap, ◌∙◌, subst, arith, Contains}
 use Rattle.std.specs.Prelude.{slice_get, IsSomeAnd}
 use Rattle.std.specs.List.Sorted.{IsStrictlyIncreasing}
 use Rattle.std.specs.Option.{option_map_or}
@@ -17,10 +17,7 @@ use Rattle.diagram_arena.specs.Table.{Word, Words, Table, has, IsLive, IsReduced
 use Rattle.diagram_arena.specs.Reach.{Bits, among, DependsOn}
 use Rattle.diagram_arena.specs.Arena.{table, Grows}
 use Rattle.diagram_arena.proofs.Reach.{reaches_only, part_depends}
-use Rattle.node_reclaim.specs.Pool.{PoolState}
-use Rattle.node_reclaim.specs.Growth.{Stays, NewArePartsOf}
 use Rattle.diagram_ops.specs.Words.{both, Denotes, IsProjection}
-use Rattle.diagram_ops.proofs.Steps.{stays_self, stays_then, no_news, news_then}
 use Rattle.search_rules.specs.Family.{HasValue}
 use Rattle.scope_words.specs.Words.{bits_at, Gives, IsBitOf, AreBitsOf, AreWordsOf, IsDiagramOf, NewReachOnlyScope}
 use Rattle.scope_words.proofs.Bits.{length-bits_at, bits_at-at, bits_at_has, in_bits_at, place_of_bit, place_within, is_bit_of, bit_is_of}
@@ -28,11 +25,9 @@ use Rattle.scope_words.proofs.Words.{same_reading}
 use Rattle.exact_steps.specs.Domains.{is_initial, word_of_value, AtVariable, values_in, IsDomain, AreDomains, family}
 use Rattle.exact_steps.specs.Steps.{IsInDiagram}
 use Rattle.exact_steps.specs.Parts.{Within, IsWanted, NewAreWanted}
-use Rattle.exact_steps.specs.Parts.IsWanted.{of_join, of_projection}
-use Rattle.exact_steps.specs.Work.{Leaves, stated, given, IsJoined}
 use Rattle.exact_steps.proofs.Values.{same_truth}
 use Rattle.exact_steps.proofs.Readings.{one_of}
-use Rattle.exact_steps.proofs.Sets.{join_words, no_domains, among_contains}
+use Rattle.exact_steps.proofs.Sets.{among_contains}
 
 -- ---- bits
 
@@ -90,27 +85,18 @@ covers_one l scope v bits set scoped are covers b on =
 -- ---- parts of the step's sets
 
 pub wanted_depends : (l : LayoutState) (scope : List VarId) (C : List Value → Type 0) (f : ℕ → Value → Bool) (W : Words) (set : Bits) → IsLayout l → Covers l scope set → IsWanted l scope C f W → DependsOn set W
-wanted_depends l scope C f W set ok covers (of_join count V words part) = part_depends set W V part (words_depend l scope (Within C f (take count scope)) V set ok words covers)
-wanted_depends l scope C f W set ok covers (of_projection v bits V scoped are words part) =
-    part_depends set W part.projection part.within (projection_depends (among bits) set part.part part.projection (covers_one l scope v bits set scoped are covers) part.projects)
+wanted_depends l scope C f W set ok covers is =
+    part_depends set W is.part.projection is.part.within
+    (projection_depends (among is.bits) set is.part.part is.part.projection (covers_one l scope is.variable is.bits set is.scoped is.bits_are covers) is.part.projects)
 
 pub wanted_reach : (l : LayoutState) (scope : List VarId) (C : List Value → Type 0) (f : ℕ → Value → Bool) (old new : Table) → IsLayout l → IsReduced new → NewAreWanted l scope C f old new → NewReachOnlyScope l scope old new
 wanted_reach l scope C f old new ok reduced news set covers i none live =
     reaches_only new reduced set (Node i) live (wanted_depends l scope C f (has new (Node i)) set ok covers (news i none live))
 
--- ---- one call after another
-
-pub leaves_self : (l : LayoutState) (scope : List VarId) (C : List Value → Type 0) (f : ℕ → Value → Bool) (s : PoolState) → IsReduced (table s.arena) → Leaves l scope C f s s
-leaves_self l scope C f s ok = record { stays = stays_self s ok; parts = no_news (table s.arena) (IsWanted l scope C f) }
-
-pub leaves_then : (l : LayoutState) (scope : List VarId) (C : List Value → Type 0) (f : ℕ → Value → Bool) (a b c : PoolState) → Leaves l scope C f a b → Stays b c
-    → NewAreWanted l scope C f (table b.arena) (table c.arena) → Leaves l scope C f a c
-leaves_then l scope C f a b c first stays parts = record {
-  stays = stays_then a b c first.stays stays;
-  parts = news_then (table a.arena) (table b.arena) (table c.arena) (IsWanted l scope C f) stays.grows first.parts parts;
-}
-
 -- ---- domains in tables that grow
+
+pub grows_itself : (t : Table) → Grows t t
+grows_itself t = record { kept = λ i n h. h; live = λ r h. h; depths = λ r h. refl; words = λ r h w. refl }
 
 pub words_grow : (t u : Table) → Grows t u → (r : Ref) → IsLive t r → has u r ≡ has t r
 words_grow t u grows r live = fun_ext (grows.words r live)
@@ -151,45 +137,3 @@ family_words l t u domains v d grows are e =
     let one = are.each v d e in
     diagram_grows l (v ∷ []) (AtVariable v (λ x. family l t domains v.0 x ≡ true)) t u d grows
     (subst (λ D. IsDiagramOf l (v ∷ []) (AtVariable v (λ x. D x ≡ true)) t d) (sym (family_at l t domains v d e)) one.diagram)
-
--- ---- the join
-
-pub first_join : (l : LayoutState) (scope : List VarId) (constraint : Ref) (domains : List Ref) (s : PoolState) → IsReduced (table s.arena)
-    → IsDiagramOf l scope (IsInDiagram l (table s.arena) constraint) (table s.arena) constraint → IsJoined l scope constraint domains s 0 s constraint
-first_join l scope constraint domains s ok is = record {
-  diagram = record { live = is.live; words = no_domains l scope (stated l s constraint) (given l s domains) (has (table s.arena) constraint) is.words };
-  leaves = leaves_self l scope (stated l s constraint) (given l s domains) s ok;
-}
-
--- the words of the join with one more domain
-more_words : (l : LayoutState) (scope : List VarId) (constraint : Ref) (domains : List Ref) (s a : PoolState) (i : ℕ) (join d : Ref) (v : VarId) → IsLayout l → AreDomains l (table s.arena) domains
-    → i < length scope → get_or scope i v ≡ v → slice_get domains v.0 ≡ Some d → IsJoined l scope constraint domains s i a join
-    → AreWordsOf l scope (Within (stated l s constraint) (given l s domains) (take (i + 1) scope)) (both (has (table a.arena) join) (has (table a.arena) d))
-more_words l scope constraint domains s a i join d v ok are within at e joined =
-    subst (λ vs. AreWordsOf l scope (Within (stated l s constraint) (given l s domains) vs) (both (has (table a.arena) join) (has (table a.arena) d)))
-    (sym (take_more scope i v within ∙ ap (λ z. take i scope ++ z ∷ []) at))
-    (join_words l scope (stated l s constraint) (given l s domains) (take i scope) v (has (table a.arena) join) (has (table a.arena) d) ok
-    (subst (Contains scope) at (Contains-get_or scope i v within)) joined.diagram.words
-    (family_words l (table s.arena) (table a.arena) domains v d joined.leaves.stays.grows are e).words)
-
--- after joining one more domain, whatever came of it
-pub join_leaves : (l : LayoutState) (scope : List VarId) (constraint : Ref) (domains : List Ref) (s a b : PoolState) (i : ℕ) (join d : Ref) (v : VarId) → IsLayout l → AreDomains l (table s.arena) domains
-    → i < length scope → get_or scope i v ≡ v → slice_get domains v.0 ≡ Some d → IsJoined l scope constraint domains s i a join → Stays a b
-    → NewArePartsOf (table a.arena) (table b.arena) (both (has (table a.arena) join) (has (table a.arena) d)) → Leaves l scope (stated l s constraint) (given l s domains) s b
-join_leaves l scope constraint domains s a b i join d v ok are within at e joined stays parts =
-    let V : Words = both (has (table a.arena) join) (has (table a.arena) d) in
-    leaves_then l scope (stated l s constraint) (given l s domains) s a b joined.leaves stays
-    (λ n none live. of_join (i + 1) V (more_words l scope constraint domains s a i join d v ok are within at e joined) (parts n none live))
-
-pub next_join : (l : LayoutState) (scope : List VarId) (constraint : Ref) (domains : List Ref) (s a b : PoolState) (i : ℕ) (join d r : Ref) (v : VarId) → IsLayout l → AreDomains l (table s.arena) domains
-    → i < length scope → get_or scope i v ≡ v → slice_get domains v.0 ≡ Some d → IsJoined l scope constraint domains s i a join → Stays a b
-    → NewArePartsOf (table a.arena) (table b.arena) (both (has (table a.arena) join) (has (table a.arena) d))
-    → Denotes (table b.arena) (both (has (table a.arena) join) (has (table a.arena) d)) r → IsJoined l scope constraint domains s (i + 1) b r
-next_join l scope constraint domains s a b i join d r v ok are within at e joined stays parts is = record {
-  diagram = record {
-    live = is.live;
-    words = subst (AreWordsOf l scope (Within (stated l s constraint) (given l s domains) (take (i + 1) scope))) (sym (fun_ext is.words))
-        (more_words l scope constraint domains s a i join d v ok are within at e joined);
-  };
-  leaves = join_leaves l scope constraint domains s a b i join d v ok are within at e joined stays parts;
-}

@@ -1,5 +1,5 @@
 -- What the parts of the step leave. Words of private helpers.
-use Rattle.std.specs.Prelude.{◌≡◌, ◌≢◌, ◌⊎◌, ℕ, ◌++◌, Bool, List, [], ◌∷◌, take, Some, None, Contains, slice_get}
+use Rattle.std.specs.Prelude.{◌≡◌, ◌≢◌, ◌⊎◌, ℕ, ◌++◌, Bool, true, List, [], ◌∷◌, take, Some, None, Contains, slice_get, filter_map}
 use Rattle.std.specs.Ordering.{nat_cmp}
 use Rattle.std.specs.List.Sorted.{IsStrictlySortedBy}
 use Rattle.set_meaning.specs.declared.kinds.Value.{Value}
@@ -8,21 +8,15 @@ use Rattle.bit_layout.specs.Order.{LayoutState}
 use Rattle.diagram_arena.specs.declared.nodes.NodeId.{NodeId}
 use Rattle.diagram_arena.specs.declared.nodes.Ref.{Ref}
 use Rattle.diagram_arena.specs.declared.nodes.Ref.TheVariants.{Node}
-use Rattle.diagram_arena.specs.Table.{Words, Table, has, IsLive}
+use Rattle.diagram_arena.specs.Table.{Word, Words, Table, has, IsLive}
 use Rattle.diagram_arena.specs.Reach.{among}
 use Rattle.diagram_arena.specs.Arena.{table}
 use Rattle.node_reclaim.specs.Pool.{PoolState}
 use Rattle.node_reclaim.specs.Growth.{Stays}
-use Rattle.diagram_ops.specs.Words.{IsProjection, IsPartOfProjection}
-use Rattle.scope_words.specs.Words.{bits_at, IsDiagramOf}
+use Rattle.diagram_ops.specs.Words.{Agree, IsProjection, IsPartOfProjection}
+use Rattle.scope_words.specs.Words.{bits_at}
 use Rattle.exact_steps.specs.Domains.{family}
 use Rattle.exact_steps.specs.Steps.{IsInDiagram, narrowed_in}
-use Rattle.exact_steps.specs.Parts.{Within, NewAreWanted}
-
--- what was there stands, and each new node is a part of one of the step's sets
-pub record Leaves (l : LayoutState) (scope : List VarId) (C : List Value → Type 0) (f : ℕ → Value → Bool) (old new : PoolState) : Type 0 where
-  pub stays : Stays old new
-  pub parts : NewAreWanted l scope C f (table old.arena) (table new.arena)
 
 -- the condition and the family of a step's arguments
 abbrev pub stated : LayoutState → PoolState → Ref → List Value → Type 0
@@ -31,10 +25,17 @@ stated l s constraint = IsInDiagram l (table s.arena) constraint
 abbrev pub given : LayoutState → PoolState → List Ref → ℕ → Value → Bool
 given l s domains = family l (table s.arena) domains
 
--- the join of the constraint with the domains of the first variables of the scope
-pub record IsJoined (l : LayoutState) (scope : List VarId) (constraint : Ref) (domains : List Ref) (old : PoolState) (count : ℕ) (new : PoolState) (join : Ref) : Type 0 where
-  pub diagram : IsDiagramOf l scope (Within (stated l old constraint) (given l old domains) (take count scope)) (table new.arena) join
-  pub leaves : Leaves l scope (stated l old constraint) (given l old domains) old new
+-- ---- sets of words
+
+-- the domains of these variables, in their order
+abbrev pub domains_at : List Ref → List VarId → List Ref
+domains_at domains variables = filter_map (λ v. slice_get domains v.0) variables
+
+-- all words of the set have the same values at these bits
+abbrev pub HasOneReading : List ℕ → Words → Type 0
+HasOneReading bits V = (w u : Word) → V w ≡ true → V u ≡ true → Agree (among bits) w u
+
+-- ---- projections
 
 -- W is a part of the projection of a part of V to the bits of one of the variables
 pub record IsProjectedPart (l : LayoutState) (scope : List VarId) (V W : Words) : Type 0 where
@@ -44,10 +45,6 @@ pub record IsProjectedPart (l : LayoutState) (scope : List VarId) (V W : Words) 
 
 abbrev pub NewAreProjected : LayoutState → List VarId → Words → Table → Table → Type 0
 NewAreProjected l scope V old new = (i : NodeId) → old i ≡ None → IsLive new (Node i) → IsProjectedPart l scope V (has new (Node i))
-
--- each domain is a ref of the table
-abbrev pub AreLive : Table → List Ref → Type 0
-AreLive t domains = (n : ℕ) (d : Ref) → slice_get domains n ≡ Some d → IsLive t d
 
 -- r is the projection of V to the bits of the variable, and another ref than its domain
 pub record IsChanged (l : LayoutState) (vs : List VarId) (domains : List Ref) (V : Words) (t : Table) (v : VarId) (r : Ref) : Type 0 where
@@ -62,12 +59,14 @@ pub record AreChanged (l : LayoutState) (vs : List VarId) (domains : List Ref) (
   pub each : (v : VarId) (r : Ref) → Contains kept (v, r) → IsChanged l vs domains V t v r
   pub others : (v : VarId) → Contains vs v → (Contains (narrowed_in kept) v → ⊥) → (d : Ref) → slice_get domains v.0 ≡ Some d → IsProjection (among (bits_at l v)) V (has t d)
 
--- the projections of the join to the first variables of the scope
-pub record IsProjecting (l : LayoutState) (scope : List VarId) (join : Ref) (domains : List Ref) (old : PoolState) (count : ℕ) (new : PoolState) (kept : List (VarId × Ref)) : Type 0 where
-  pub found : AreChanged l (take count scope) domains (has (table old.arena) join) (table new.arena) kept
+-- the projections of V to the first variables of the scope
+pub record IsProjecting (l : LayoutState) (scope : List VarId) (V : Words) (domains : List Ref) (old : PoolState) (count : ℕ) (new : PoolState) (kept : List (VarId × Ref)) : Type 0 where
+  pub found : AreChanged l (take count scope) domains V (table new.arena) kept
   pub stays : Stays old new
-  pub parts : NewAreProjected l scope (has (table old.arena) join) (table old.arena) (table new.arena)
+  pub parts : NewAreProjected l scope V (table old.arena) (table new.arena)
 
--- the variable was appended with its projection, or that is its domain
-abbrev pub Keeps : List (VarId × Ref) → List (VarId × Ref) → List Ref → VarId → Ref → Type 0
-Keeps old new domains v r = ((new ≡ old) × (slice_get domains v.0 ≡ Some r)) ⊎ ((new ≡ old ++ (v, r) ∷ []) × ((d : Ref) → slice_get domains v.0 ≡ Some d → r ≢ d))
+-- the domain d of the variable is the projection of V to its bits, and the list stays; or the variable was appended with that projection,
+-- another ref
+abbrev pub IsLookedAt : LayoutState → Ref → Words → Table → List (VarId × Ref) → List (VarId × Ref) → VarId → Type 0
+IsLookedAt l d V t old new v = ((new ≡ old) × IsProjection (among (bits_at l v)) V (has t d))
+    ⊎ ((r : Ref) × (new ≡ old ++ (v, r) ∷ []) × IsLive t r × IsProjection (among (bits_at l v)) V (has t r) × (r ≢ d))

@@ -13,13 +13,6 @@ pub(crate) fn is_same(a: Ref, b: Ref) -> bool
     a == b
 }
 
-/// Whether the set is empty.
-pub(crate) fn is_zero(r: Ref) -> bool
-    ensures { IsTrue result ↔ (r ≡ Ref.Zero) }
-{
-    r == Ref::Zero
-}
-
 /// Same where nothing is narrowed.
 pub(crate) fn answer(kept: Vec<(VarId, Ref)>) -> StepResult
     ensures { IsAnswer kept.items result }

@@ -9,7 +9,7 @@
 #![tactic(auto)]
 
 mod comparing;
-mod joining;
+mod gathering;
 mod laws;
 mod projecting;
 mod steps;

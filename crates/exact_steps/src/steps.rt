@@ -1,4 +1,4 @@
-//! The step: the constraint and the domains are joined, the join is projected to each variable, and what changed is listed.
+//! The step: the words that are in the constraint and in all domains of its scope are projected to each variable, and what changed is listed.
 ghost use Rattle.std.specs.Prelude.{◌≡◌, ◌<◌, IfOk, length, All};
 ghost use Rattle.std.specs.Ordering.{nat_cmp};
 ghost use Rattle.std.specs.List.Sorted.{IsStrictlySortedBy};
@@ -9,8 +9,8 @@ ghost use Rattle.exact_steps.specs.Domains.{AreDomains, family};
 ghost use Rattle.exact_steps.specs.Steps.{IsInDiagram, IsStepOf};
 ghost use Rattle.exact_steps.specs.Parts.{NewAreWanted};
 
-use crate::comparing::{answer, is_zero};
-use crate::joining::joined;
+use crate::comparing::answer;
+use crate::gathering::domains_of_scope;
 use crate::projecting::projected;
 use bit_layout::Layout;
 use diagram_arena::{Ref, Stop};
@@ -34,9 +34,9 @@ pub enum StepResult {
 /// the words that give the scope initial values which satisfy the constraint; `domains` has for each variable of the problem, in order,
 /// its domain: live, not empty, over the bits of this variable alone, and with words of its initial values only.
 ///
-/// One `and` is made for each variable of the scope, and unless the join is empty then one `project` each, whose time and nodes may be
-/// exponential in the bits of the other variables. Nothing is pinned. Full and Memory come as from `Ops::and` and `Ops::project`; memory
-/// is also wanted for the list. Nodes that were made before a refusal stay.
+/// One `product_is_empty` is asked, and unless there is no support then one `project_product` for each variable of the scope whose domain has
+/// more than one value. Its time and nodes may be exponential in the bits of the other variables. Nothing is pinned. Full and Memory come as
+/// from these calls; memory is also wanted for the list. Nodes that were made before a refusal stay.
 pub fn step(
     alloc: Global,
     ops: &mut Ops,
@@ -60,10 +60,12 @@ pub fn step(
     // What holds of every layout and every pool.
     layout.obeys_order();
     let _ = ops.pool();
-    let join = joined(ops, layout, scope, constraint, domains)?;
-    if is_zero(join) {
+    let gathered = domains_of_scope(alloc, scope, domains)?;
+    let own = gathered.as_slice();
+    let none = ops.product_is_empty(constraint, own)?;
+    if none {
         return Ok(StepResult::Empty);
     }
-    let kept = projected(alloc, ops, layout, scope, join, domains)?;
+    let kept = projected(alloc, ops, layout, scope, constraint, domains, own)?;
     Ok(answer(kept))
 }

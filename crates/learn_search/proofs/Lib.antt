@@ -1,4 +1,6 @@
 pub mod Taking
+pub mod Keeping
+pub mod Attempting
 pub mod Rounding
 pub mod Sizes
 pub mod Starting

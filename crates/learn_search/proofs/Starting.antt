@@ -1,10 +1,13 @@
 -- The initial domains are on the way to the root family, and what a root family that was reached says.
-use Rattle.std.proofs.Common.{◌≡◌, ℕ, Bool, true, false, not, List, [], length, refl, sym, subst}
+use Rattle.std.specs.List.{All}
+use Rattle.std.proofs.lemmas.Option.{slice_get-get_or}
+use Rattle.exact_steps.specs.Domains.{variable}
+use Rattle.std.proofs.Common.{◌≡◌, ℕ, get_or, Bool, true, false, not, List, [], length, refl, sym, subst}
 use Rattle.set_meaning.specs.declared.problems.Bounds.{Bounds}
 use Rattle.set_meaning.specs.declared.problems.Problem.{Problem}
 use Rattle.bit_layout.specs.Order.{LayoutState, IsLayout}
 use Rattle.diagram_arena.specs.declared.nodes.Ref.{Ref}
-use Rattle.diagram_arena.specs.Table.{Table, IsReduced}
+use Rattle.diagram_arena.specs.Table.{Table, IsLive, IsReduced}
 use Rattle.search_rules.specs.Problem as rules
 use Rattle.search_rules.specs.Problem.Steps.{start}
 use Rattle.problem_rules.specs.Posed.{problem_of}
@@ -32,3 +35,6 @@ found_rows p l t domains lent b rows ok same reduced fixed on is_lent are =
     let root : IsRootFamily p l t domains = subst (IsFixed p l t domains) on fixed in
     let own : AreRowsAt l t domains (length domains) rows = subst (λ ds. AreRowsAt l t ds (length ds) rows) is_lent are in
     (not_refuted p l t domains ok same root, rows_are p l t domains ok same root rows reduced own)
+
+pub start_live : (p : Problem) (l : LayoutState) (t : Table) (k : CompiledState) (lent : List Ref) → IsCompiled l p t k → lent ≡ k.start → All (IsLive t) lent
+start_live p l t k lent is e = subst (All (IsLive t)) (sym e) (λ i d within. (is.start.each (variable i) (get_or k.start i d) (slice_get-get_or k.start i d within)).domain.diagram.live)

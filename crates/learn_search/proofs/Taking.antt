@@ -4,7 +4,7 @@ use Rattle.std.specs.Prelude.{Vec, slice_get, slice_set}
 use Rattle.std.specs.declared.alloc.Global.{Global}
 use Rattle.std.specs.List.{All, AllZip}
 use Rattle.std.proofs.lemmas.Option.{slice_get-get_or}
-use Rattle.std.proofs.lemmas.List.Elements.{All-contains, All-cons}
+use Rattle.std.proofs.lemmas.List.Elements.{All-contains, All-cons, Contains-get_or}
 use Rattle.set_meaning.specs.declared.kinds.Value.{Value}
 use Rattle.set_meaning.specs.declared.problems.VarId.{VarId}
 use Rattle.set_meaning.specs.declared.problems.ConId.{ConId}
@@ -15,7 +15,7 @@ use Rattle.bit_layout.specs.Order.{LayoutState, IsLayout}
 use Rattle.bit_layout.proofs.Rising.{nothing_in_empty, in_head, in_tail}
 use Rattle.diagram_arena.specs.declared.nodes.Ref.{Ref}
 use Rattle.diagram_arena.specs.declared.nodes.Ref.TheVariants.{Zero}
-use Rattle.diagram_arena.specs.Table.{Table}
+use Rattle.diagram_arena.specs.Table.{Table, IsLive}
 use Rattle.diagram_arena.specs.Arena.{Grows}
 use Rattle.scope_words.specs.Words.{IsDiagramOf}
 use Rattle.search_rules.specs.Family.{Lies, AllLie, put}
@@ -31,6 +31,8 @@ use Rattle.exact_steps.specs.declared.steps.StepResult.TheVariants as step
 use Rattle.exact_steps.specs.Domains.{values_in, IsDomain, AreDomains, family}
 use Rattle.exact_steps.specs.Steps.{IsStepOf, IsSatisfiable, AllExtend, AreNarrowed, IsViolated}
 use Rattle.exact_steps.specs.Rules.{IsConstraintOf}
+use Rattle.exact_steps.specs.Parts.{NewAreWanted}
+use Rattle.node_reclaim.specs.Growth.{NewAre}
 use Rattle.exact_steps.proofs.Wanted.{domains_grow}
 use Rattle.exact_steps.proofs.Constraints.{family_grows, rule_violated, rule_narrowed, rule_satisfiable, rule_left}
 use Rattle.exact_steps.proofs.Replacing.{domains_replaced, family_replaced}
@@ -38,7 +40,10 @@ use Rattle.problem_rules.specs.Posed.{problem_of}
 use Rattle.problem_rules.proofs.Variables.{constraint_here}
 use Rattle.propagators.specs.Compiled.{CompiledState, IsCompiled, IsCompiledOfSome, IsConstraintAt}
 use Rattle.propagators.proofs.Scopes.{IsEntry, entry}
+use Rattle.propagators.proofs.Moving.{listed_at}
 use Rattle.learn_search.specs.declared.narrowing.Taken.TheVariants as taken
+use Rattle.learn_search.specs.Nodes.{IsOfRoot}
+use Rattle.learn_search.specs.Nodes.IsOfRoot.{of_step}
 use Rattle.learn_search.specs.Rounds.{IsOnWay, left, IsQuietAt, IsTaken, put_each}
 
 -- ---- tables that grow
@@ -250,7 +255,10 @@ module _ (p : Problem) (l : LayoutState) (t u : Table) (k : CompiledState) (c : 
   told_as r as_is = subst (IsStepOf l e.scope (Holds e.constraint) (family l t domains) u) as_is told
 
   pub taken_quiet : o ≡ step.Same → IsTaken p l t u c.0 domains domains taken.Quiet
-  taken_quiet as_is = (refl, quiet p l t u k c.0 domains ok known is way grows e (told_as step.Same as_is))
+  taken_quiet as_is = (
+    record { same = refl; way = way_now p l t u k c.0 domains ok known is way grows e; values = same p l t u k c.0 domains ok known is way grows e },
+    quiet p l t u k c.0 domains ok known is way grows e (told_as step.Same as_is),
+  )
 
   pub taken_violated : (new : List Ref) → o ≡ step.Empty → IsTaken p l t u c.0 domains new taken.Violated
   taken_violated new as_is = violated p l t u k c.0 domains ok known is way grows e (told_as step.Empty as_is)
@@ -263,3 +271,25 @@ module _ (p : Problem) (l : LayoutState) (t u : Table) (k : CompiledState) (c : 
       let h = told_as (step.Narrowed kept) as_is in
       subst (λ new. IsTaken p l t u c.0 domains new taken.Narrowed) (sym put_is)
       (on_way p l t u k c.0 domains ok known is way grows e kept.items h.2, fewer p l t u k c.0 domains ok known is way grows e kept.items h.1 h.2)
+
+  pub kept_live : (kept : Vec (VarId × Ref) Global) → o ≡ step.Narrowed kept → All (λ (x : VarId × Ref). IsLive u x.1) kept.items
+  kept_live kept as_is i d within =
+      let h = told_as (step.Narrowed kept) as_is in
+      (h.2.each (get_or kept.items i d).0 (get_or kept.items i d).1 (Contains-get_or kept.items i d within)).domain.diagram.live
+
+-- each new node of a step is wanted for it, whatever came of it
+pub news : (p : Problem) (l : LayoutState) (t u : Table) (k : CompiledState) (c : ConId) (domains lent : List Ref) → IsLayout l → c.0 < length p.constraints → IsCompiled l p t k → IsOnWay p l t domains → lent ≡ domains
+    → ((con : Constraint) (scope : List VarId) → IsConstraintAt l t k c con scope → NewAreWanted l scope (Holds con) (family l t lent) t u) → NewAre t u (IsOfRoot p)
+news p l t u k c domains lent ok known is way is_lent parts i none live =
+    let e = there l p t k c.0 is known in
+    of_step l ok is.kinds (record {
+      constraint = e.constraint;
+      listed = listed_at p.constraints c.0 e.constraint e.at;
+      scope = e.scope;
+      is_scope = e.entry_is.is_scope;
+      family = family l t domains;
+      taken = way.constraints;
+      steps = way.steps;
+      wanted = subst (λ ds. NewAreWanted l e.scope (Holds e.constraint) (family l t ds) t u) is_lent
+          (parts e.constraint e.scope (record { problem = p; compiled = is; at = e.at; scope_at = e.scope_at })) i none live;
+    })

@@ -1,4 +1,5 @@
 pub mod Roots
+pub mod Nodes
 pub mod Searches
 pub mod Pinned
 pub mod Rounds

@@ -42,15 +42,21 @@ abbrev pub put_each : List (VarId × Ref) → List Ref → List Ref
 put_each [] domains = domains
 put_each ((v, r) ∷ kept) domains = put_each kept (slice_set domains v.0 r)
 
+-- the domains are the same, and mean what they meant
+pub record IsUnchanged (p : Problem) (l : LayoutState) (t u : Table) (old new : List Ref) : Type 0 where
+  pub same : new ≡ old
+  pub way : IsOnWay p l u new
+  pub values : family l u new ≡ family l t old
+
 -- what the step of constraint number c does
 abbrev pub IsTaken : Problem → LayoutState → Table → Table → ℕ → List Ref → List Ref → Taken → Type 0
-IsTaken p l t u c old new taken.Quiet = (new ≡ old) × IsQuietAt p (family l u new) c
+IsTaken p l t u c old new taken.Quiet = IsUnchanged p l t u old new × IsQuietAt p (family l u new) c
 IsTaken p l t u c old new taken.Narrowed = IsOnWay p l u new × (left p l u new < left p l t old)
 IsTaken p l t u c old new taken.Violated = IsRootRefuted (problem_of p)
 
 -- what the steps of the first constraints, so many, did: nothing, and each is quiet; or they took values
 abbrev pub IsSoFar : Problem → LayoutState → Table → Table → ℕ → List Ref → List Ref → Bool → Type 0
-IsSoFar p l t u count old new false = (new ≡ old) × AreQuiet p (family l u new) count
+IsSoFar p l t u count old new false = IsUnchanged p l t u old new × AreQuiet p (family l u new) count
 IsSoFar p l t u count old new true = IsOnWay p l u new × (left p l u new < left p l t old)
 
 -- what the steps of all constraints do

@@ -5,6 +5,7 @@ use Rattle.std.specs.Coded.{Coded, code_by, coded×, coded_option}
 use Rattle.set_meaning.specs.declared.problems.Problem.{Problem}
 use Rattle.set_meaning.specs.contracts.problems.Problem as problem_row
 use Rattle.node_reclaim.specs.Pool.{PoolState, pool_code, pinned_refs}
+use Rattle.node_reclaim.specs.Growth.{IsFull}
 use Rattle.learn_search.specs.contracts.search.SearchEnd as end_row
 use Rattle.problem_limits.specs.Limits.{KeepsLimits}
 use Rattle.learn_search.specs.declared.search.SearchEnd.{SearchEnd}

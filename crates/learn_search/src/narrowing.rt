@@ -1,19 +1,24 @@
-//! From the initial domains to the root family: all constraints are taken again after each change.
-ghost use Rattle.std.specs.Prelude.{◌≡◌, ◌<◌, Err, IfOk, length, slice_set, All};
-ghost use Rattle.set_meaning.specs.declared.problems.VarId.{VarId as Variable};
-ghost use Rattle.diagram_arena.specs.declared.nodes.Ref.{Ref as AnyRef};
+//! From the initial domains to the root family: all constraints are taken again after each change. The domains stay pinned, and each step is a
+//! unit: where it finds no room, what no pin reaches is reclaimed, and it is tried once more.
+ghost use Rattle.std.specs.Prelude.{◌≡◌, ◌<◌, ◌++◌, [], Err, IfOk, OnOk, length, All};
+ghost use Rattle.diagram_arena.specs.Table.{IsLive};
 ghost use Rattle.diagram_arena.specs.Arena.{table};
-ghost use Rattle.node_reclaim.specs.Growth.{IsFull, Stays};
+ghost use Rattle.node_reclaim.specs.Growth.{IsFull};
+ghost use Rattle.node_reclaim.specs.Holders.{AreHeld};
+ghost use Rattle.pin_lists.specs.Units.{Moves, UnitsLeave};
 ghost use Rattle.problem_limits.specs.Limits.{KeepsLimits};
-ghost use Rattle.propagators.specs.Compiled.{IsCompiled};
+ghost use Rattle.propagators.specs.Compiled.{pinned_by, IsCompiled};
+ghost use Rattle.learn_search.specs.Nodes.{IsOfRoot};
+ghost use Rattle.learn_search.specs.Pinned.{AreDomainsOfFirst};
 ghost use Rattle.learn_search.specs.Rounds.{IsOnWay, IsTaken, IsRound, IsFixed, put_each};
 
 use bit_layout::Layout;
 use diagram_arena::{Ref, Stop};
 use diagram_ops::Ops;
+use pin_lists::{PinList, collect};
 use propagators::{Compiled, StepResult, step};
 use set_meaning::{ConId, Problem, VarId};
-use std::alloc::Global;
+use std::alloc::{AllocError, Global};
 
 /// What steps did to the domains.
 #[derive(Clone, Copy)]
@@ -33,14 +38,16 @@ pub(crate) fn narrow(
     layout: &Layout,
     p: &Problem,
     compiled: &Compiled,
-    domains: &mut Vec<Ref>,
+    domains: &mut PinList,
 ) -> Result<bool, Stop>
     requires limits { KeepsLimits p.now }
     requires compiled { IsCompiled layout.now p.now (table ops.old.arena) compiled.now }
-    requires way { IsOnWay p.now layout.now (table ops.old.arena) domains.old.items }
-    ensures fixed { IfOk result (IsFixed p.now layout.now (table ops.new.arena) domains.new.items) }
-    ensures stays { Stays ops.old ops.new }
+    requires way { IsOnWay p.now layout.now (table ops.old.arena) domains.old }
+    requires held { AreHeld ops.old (pinned_by compiled.now ++ domains.old) }
+    ensures fixed { IfOk result (IsFixed p.now layout.now (table ops.new.arena) domains.new) }
+    ensures left { UnitsLeave (IsOfRoot p.now) ops.old ops.new domains.old domains.new }
     ensures full { result ≡ Err Stop.Full → IsFull ops.new }
+    ensures stopped { result ≡ Err Stop.Full → AreDomainsOfFirst layout.now (table ops.new.arena) domains.new }
 {
     // What holds of every pool.
     let _ = ops.pool();
@@ -60,14 +67,16 @@ fn round(
     layout: &Layout,
     p: &Problem,
     compiled: &Compiled,
-    domains: &mut Vec<Ref>,
+    domains: &mut PinList,
 ) -> Result<Taken, Stop>
     requires limits { KeepsLimits p.now }
     requires compiled { IsCompiled layout.now p.now (table ops.old.arena) compiled.now }
-    requires way { IsOnWay p.now layout.now (table ops.old.arena) domains.old.items }
-    ensures round { IfOk result (IsRound p.now layout.now (table ops.old.arena) (table ops.new.arena) domains.old.items domains.new.items) }
-    ensures stays { Stays ops.old ops.new }
+    requires way { IsOnWay p.now layout.now (table ops.old.arena) domains.old }
+    requires held { AreHeld ops.old (pinned_by compiled.now ++ domains.old) }
+    ensures round { IfOk result (IsRound p.now layout.now (table ops.old.arena) (table ops.new.arena) domains.old domains.new) }
+    ensures left { UnitsLeave (IsOfRoot p.now) ops.old ops.new domains.old domains.new }
     ensures full { result ≡ Err Stop.Full → IsFull ops.new }
+    ensures stopped { result ≡ Err Stop.Full → AreDomainsOfFirst layout.now (table ops.new.arena) domains.new }
 {
     // What holds of every pool.
     let _ = ops.pool();
@@ -101,40 +110,76 @@ fn take(
     p: &Problem,
     compiled: &Compiled,
     c: ConId,
-    domains: &mut Vec<Ref>,
+    domains: &mut PinList,
 ) -> Result<Taken, Stop>
     requires known { c.0 < length p.now.constraints }
     requires compiled { IsCompiled layout.now p.now (table ops.old.arena) compiled.now }
-    requires way { IsOnWay p.now layout.now (table ops.old.arena) domains.old.items }
-    ensures taken { IfOk result (IsTaken p.now layout.now (table ops.old.arena) (table ops.new.arena) c.0 domains.old.items domains.new.items) }
-    ensures stays { Stays ops.old ops.new }
+    requires way { IsOnWay p.now layout.now (table ops.old.arena) domains.old }
+    requires held { AreHeld ops.old (pinned_by compiled.now ++ domains.old) }
+    ensures taken { IfOk result (IsTaken p.now layout.now (table ops.old.arena) (table ops.new.arena) c.0 domains.old domains.new) }
+    ensures left { UnitsLeave (IsOfRoot p.now) ops.old ops.new domains.old domains.new }
     ensures full { result ≡ Err Stop.Full → IsFull ops.new }
+    ensures stopped { result ≡ Err Stop.Full → AreDomainsOfFirst layout.now (table ops.new.arena) domains.new }
 {
-    // What holds of every layout.
+    ops.begin_unit();
+    match attempt(alloc, ops, layout, p, compiled, c, domains) {
+        Ok(taken) => Ok(taken),
+        Err(Stop::Memory) => Err(Stop::Memory),
+        Err(Stop::Full) => {
+            collect(ops);
+            ops.begin_unit();
+            attempt(alloc, ops, layout, p, compiled, c, domains)
+        }
+    }
+}
+
+/// One try of that unit.
+fn attempt(
+    alloc: Global,
+    ops: &mut Ops,
+    layout: &Layout,
+    p: &Problem,
+    compiled: &Compiled,
+    c: ConId,
+    domains: &mut PinList,
+) -> Result<Taken, Stop>
+    requires known { c.0 < length p.now.constraints }
+    requires compiled { IsCompiled layout.now p.now (table ops.old.arena) compiled.now }
+    requires way { IsOnWay p.now layout.now (table ops.old.arena) domains.old }
+    requires held { AreHeld ops.old (pinned_by compiled.now ++ domains.old) }
+    ensures taken { IfOk result (IsTaken p.now layout.now (table ops.old.arena) (table ops.new.arena) c.0 domains.old domains.new) }
+    ensures left { UnitsLeave (IsOfRoot p.now) ops.old ops.new domains.old domains.new }
+    ensures full { result ≡ Err Stop.Full → IsFull ops.new }
+    ensures refused { result ≡ Err Stop.Full → (domains.new ≡ domains.old) × UnitsLeave (IsOfRoot p.now) ops.old ops.new [] [] }
+{
+    // What holds of every layout and every pool.
     layout.obeys_order();
-    match step(alloc, ops, layout, compiled, c, domains.as_slice())? {
+    let _ = ops.pool();
+    match step(alloc, ops, layout, compiled, c, domains.refs())? {
         StepResult::Same => Ok(Taken::Quiet),
         StepResult::Narrowed(kept) => {
-            put(domains, kept.as_slice());
+            put(ops, domains, kept.as_slice())?;
             Ok(Taken::Narrowed)
         }
         StepResult::Empty => Ok(Taken::Violated),
     }
 }
 
-/// Puts each of the refs at its variable's place.
-fn put(domains: &mut Vec<Ref>, kept: &[(VarId, Ref)])
-    requires { All (λ e. e.0.0 < length domains.old.items) kept.now }
-    ensures { domains.new.items ≡ put_each kept.now domains.old.items }
+/// Pins each of the refs at its variable's place, in place of what was there.
+fn put(
+    ops: &mut Ops,
+    domains: &mut PinList,
+    kept: &[(VarId, Ref)],
+) -> Result<(), AllocError>
+    requires known { All (λ e. e.0.0 < length domains.old) kept.now }
+    requires live { All (λ e. IsLive (table ops.old.arena) e.1) kept.now }
+    requires held { AreHeld ops.old domains.old }
+    ensures put { OnOk result (domains.new ≡ put_each kept.now domains.old) }
+    ensures moved { Moves ops.old ops.new domains.old domains.new }
+    ensures only { ops.new ≡ record ops.old { counts = ops.new.counts } }
 {
     for (v, r) in kept {
-        put_one(domains, *v, *r);
+        domains.replace(ops, v.0 as usize, *r)?;
     }
-}
-
-fn put_one(domains: &mut Vec<Ref>, v: VarId, r: Ref)
-    requires { v.0 < length domains.old.items }
-    ensures { domains.new.items ≡ slice_set domains.old.items v.0 r }
-{
-    domains[v.0 as usize] = r;
+    Ok(())
 }

@@ -1,11 +1,15 @@
 //! A search: its problem, its nodes, and how it ended.
-ghost use Rattle.std.specs.Prelude.{◌≡◌, ◌↔◌, ◌<◌, ◌≤◌, Err, Some, None, IsSome, IfSome, IfOk, IfErr, OnOk};
+ghost use Rattle.std.specs.Prelude.{◌≡◌, ◌↔◌, ◌<◌, ◌≤◌, List, Err, Some, None, IsSome, IfSome, IfOk, IfErr, OnOk};
 ghost use Rattle.std.specs.FinMap as map;
 ghost use Rattle.set_meaning.specs.declared.problems.Problem.{Problem as AnyProblem};
 ghost use Rattle.diagram_arena.specs.Arena.{most_nodes};
 ghost use Rattle.node_reclaim.specs.Pool.{PoolState};
 ghost use Rattle.problem_limits.specs.Limits.{KeepsLimits};
-ghost use Rattle.node_reclaim.specs.Holders.{StaysButPins};
+ghost use Rattle.diagram_arena.specs.declared.nodes.Ref.{Ref as AnyRef};
+ghost use Rattle.diagram_arena.specs.Arena.{table};
+ghost use Rattle.node_reclaim.specs.Holders.{AreHeld, MeansTheSame};
+ghost use Rattle.pin_lists.specs.Units.{AllAre};
+ghost use Rattle.learn_search.specs.Nodes.{IsOfRoot};
 ghost use Rattle.learn_search.specs.Roots.{IsRootOf};
 ghost use Rattle.node_reclaim.specs.Growth.{IsFull};
 ghost use Rattle.learn_search.specs.Searches.{IsLastOf};
@@ -23,7 +27,7 @@ use std::alloc::{AllocError, Global};
 use std::marker::Model;
 
 /// How many results of set operations are kept in mind.
-const CACHE: usize = 1_000_000;
+const CACHE: usize = 262_144;
 
 /// What was found at the root.
 #[derive(Drop)]
@@ -140,12 +144,12 @@ impl Search {
     /// that the root is refuted. It may be asked again, and then compiles again.
     ///
     /// All constraints are taken again after each round that changed something, so there are at most as many rounds as there are initial values
-    /// of all variables, and one more. Nodes comes only where there are as many nodes as the limit allows. The initial domains, the
-    /// constraints and every domain on the way are diagrams; over k bits a diagram has fewer than 2^k nodes. Nothing is collected yet, so
-    /// all of them count.
+    /// of all variables, and one more. The initial domains, the constraints and every domain on the way are diagrams; over k bits a diagram has
+    /// fewer than 2^k nodes. A unit is one initial domain, one constraint's compilation or one step. Where a unit finds no room, the nodes
+    /// that no pin reaches are freed and the unit is tried once more; a second refusal is Nodes. Each node that is made is wanted for a unit.
     ///
-    /// After Ok and Memory each node has as many pins as before. After Nodes what was compiled stays pinned, so that `stop` can say what
-    /// the nodes were for. The desk is not called.
+    /// After Ok and Memory each node has as many pins as before. After Nodes what was compiled and the domains on the way stay pinned, so that
+    /// `stop` can say what the nodes were for. Conflicts do not count, and the desk is not called, until the search reads them.
     pub fn root<D: Desk>(&mut self, desk: &mut D) -> Result<RootFound, SearchEnd>
         ensures means { IfOk result (IsRootOf self.old.problem) }
 
@@ -163,7 +167,8 @@ impl Search {
         // What stays.
         ensures problem { self.new.problem ≡ self.old.problem }
         ensures limit { self.new.pool.arena.limit ≡ self.old.pool.arena.limit }
-        ensures stands { StaysButPins self.old.pool self.new.pool }
+        ensures kept { (rs : List AnyRef) → AreHeld self.old.pool rs → MeansTheSame (table self.old.pool.arena) (table self.new.pool.arena) rs }
+        ensures wanted { AllAre (table self.old.pool.arena) (table self.new.pool.arena) (IsOfRoot self.old.problem) }
         ensures refused { result ≡ Err SearchEnd.Ended → self.new ≡ self.old }
         ensures told { D.state desk.new ≡ D.state desk.old }
         ensures faults { D.faults desk.new ≡ D.faults desk.old }

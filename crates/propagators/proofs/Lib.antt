@@ -1,6 +1,5 @@
 pub mod Moving
 pub mod Scopes
-pub mod Counting
 pub mod Narrow
 pub mod OneKind
 pub mod Agreeing

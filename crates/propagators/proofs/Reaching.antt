@@ -1,5 +1,5 @@
 -- The nodes of a unit reach only bits of its variables; and what a compilation ends with.
-use Rattle.std.proofs.Common.{◌≡◌, List, [], ◌∷◌, refl, sym, ap, subst, arith, Contains}
+use Rattle.std.proofs.Common.{◌≡◌, List, [], ◌∷◌, refl, sym, ap, subst, inl, inr, arith, Contains}
 use Rattle.std.specs.List.{AllZip}
 use Rattle.std.specs.FinMap as map
 use Rattle.set_meaning.specs.declared.kinds.Value.{Value}
@@ -19,13 +19,14 @@ use Rattle.diagram_arena.specs.Reach.{Bits, DependsOn}
 use Rattle.diagram_arena.specs.Arena.{ArenaState, table}
 use Rattle.diagram_arena.proofs.Reach.{reaches_only, part_depends}
 use Rattle.node_reclaim.specs.Pool.{PoolState, Unpins}
-use Rattle.node_reclaim.specs.Growth.{Stays}
 use Rattle.scope_words.specs.Words.{variables_in}
 use Rattle.scope_words.proofs.Bits.{place_of_bit, is_bit_of}
 use Rattle.exact_steps.proofs.Wanted.{Covers, words_depend}
-use Rattle.node_reclaim.specs.Holders.{Gains, AreHeld, StaysButPins}
+use Rattle.node_reclaim.specs.Holders.{Gains, AreHeld, MeansTheSame}
+use Rattle.pin_lists.specs.Units.{AllAre}
+use Rattle.pin_lists.proofs.Leaving.{gained_from, held_after, held_none, held_beside}
 use Rattle.propagators.specs.Compiled.{CompiledState, pinned_by, AreInitialDomains, IsDiagramOfConstraint, IsCompiled}
-use Rattle.propagators.specs.Units.{Anything, Relates, Fails, HasTruth, HasTruthOfRelation, truth_variables, IsPartOfWords, IsWantedBy, IsOfUnit, NewAreOfUnits, ReachesUnit, NewReachUnits, PinsAfter}
+use Rattle.propagators.specs.Units.{Anything, Relates, Fails, HasTruth, HasTruthOfRelation, truth_variables, IsPartOfWords, IsWantedBy, IsOfUnit, ReachesUnit, AllReachUnits, PinsAfter}
 use Rattle.propagators.specs.Units.IsWantedBy.{initial, holding, failing, truth, truth_of_relation, satisfying}
 use Rattle.propagators.specs.Units.IsOfUnit.{of_variable, of_constraint}
 use Rattle.propagators.specs.Units.ReachesUnit.{of_variable as reaches_variable, of_constraint as reaches_constraint}
@@ -55,35 +56,29 @@ unit_reaches l p t i ok reduced live (of_variable v within part) =
 unit_reaches l p t i ok reduced live (of_constraint c listed wanted) =
     reaches_constraint c listed (λ set covers. reaches_only t reduced set (Node i) live (wanted_depends l c (has t (Node i)) set ok covers wanted))
 
-pub units_reach : (l : LayoutState) (p : Problem) (old new : Table) → IsLayout l → IsReduced new → NewAreOfUnits l p old new → NewReachUnits l p old new
-units_reach l p old new ok reduced news i none live = unit_reaches l p new i ok reduced live (news i none live)
+pub units_reach : (l : LayoutState) (p : Problem) (old new : Table) → IsLayout l → IsReduced new → AllAre old new (IsOfUnit l p) → AllReachUnits l p old new
+units_reach l p old new ok reduced all i live = elim (all i live) [ inl stood ↦ inl stood | inr wanted ↦ inr (unit_reaches l p new i ok reduced live wanted) ]
 
 -- ---- the ends of a compilation
 
 pub held_there : (l : LayoutState) (p : Problem) (old new : PoolState) (held : List Ref) → LeavesUnits l p old new held → AreHeld new held
-held_there l p old new held left i = let g = left.gains i in omega (arith, g)
+held_there l p old new held left = held_after old new [] held left.pins (held_none old)
 
 pub all_compiled : (l : LayoutState) (p : Problem) (t : Table) (k : CompiledState) → IsProblem p → l.kinds ≡ p.kinds → AreInitialDomains l t k.start → AllZip IsScope p.constraints k.scopes → AllZip (IsDiagramOfConstraint l t) p.constraints k.diagrams
     → IsCompiled l p t k
 all_compiled l p t k legal same start scopes diagrams = record { legal = legal; kinds = same; start = start; scopes = scopes; diagrams = diagrams }
 
 pub gained_all : (l : LayoutState) (p : Problem) (old new : PoolState) (held : List Ref) (k : CompiledState) → HoldsUnits l p old new held → held ≡ pinned_by k → Gains old new (pinned_by k)
-gained_all l p old new held k units e = subst (Gains old new) e units.left.gains
+gained_all l p old new held k units e = subst (Gains old new) e (gained_from old new held units.left.pins)
 
 pub stopped_full : (l : LayoutState) (p : Problem) (old new : PoolState) (held : List Ref) → HoldsUnits l p old new held → PinsAfter l p old new Full
-stopped_full l p old new held units = (units.domains, units.diagrams, units.done, subst (Gains old new) units.all units.left.gains)
+stopped_full l p old new held units = (units.domains, units.diagrams, units.done, subst (Gains old new) units.all (gained_from old new held units.left.pins))
 
 pub stopped_memory : (l : LayoutState) (p : Problem) (old mid new : PoolState) (held : List Ref) → LeavesUnits l p old mid held → Unpins mid new held → PinsAfter l p old new Memory
-stopped_memory l p old mid new held left un i = let g = left.gains i in let h = un.lost i in omega (arith, g, h)
+stopped_memory l p old mid new held left un i = let g = left.pins i in let h = un.lost i in omega (arith, g, h)
 
 pub same_arena : (mid new : PoolState) → new ≡ record mid { counts = new.counts } → new.arena ≡ mid.arena
 same_arena mid new e = ap (λ (s : PoolState). s.arena) e
-
-pub nodes_after : (old mid new : PoolState) (rs : List Ref) → StaysButPins old mid → Unpins mid new rs → StaysButPins old new
-nodes_after old mid new rs stays un = let P : ArenaState → Type 0 = λ a. Stays old (record { arena = a; counts = old.counts }) in subst P (sym (same_arena mid new un.only)) stays
-
-pub parts_after : (l : LayoutState) (p : Problem) (old mid new : PoolState) (rs : List Ref) → NewAreOfUnits l p (table old.arena) (table mid.arena) → Unpins mid new rs → NewAreOfUnits l p (table old.arena) (table new.arena)
-parts_after l p old mid new rs parts un = let P : ArenaState → Type 0 = λ a. NewAreOfUnits l p (table old.arena) (table a) in subst P (sym (same_arena mid new un.only)) parts
 
 -- after the pins were spent
 
@@ -91,13 +86,22 @@ pub stopped_so : (l : LayoutState) (p : Problem) (old mid new : PoolState) (held
 stopped_so l p old mid new held Full units e = subst (λ (s : PoolState). PinsAfter l p old s Full) (sym e) (stopped_full l p old mid held units)
 stopped_so l p old mid new held Memory units un = stopped_memory l p old mid new held units.left un
 
-pub nodes_so : (l : LayoutState) (p : Problem) (old mid new : PoolState) (held : List Ref) (stop : Stop) → HoldsUnits l p old mid held → IsGivenBack stop mid new held → StaysButPins old new
-nodes_so l p old mid new held Full units e = subst (λ (s : PoolState). StaysButPins old s) (sym e) units.left.nodes
-nodes_so l p old mid new held Memory units un = nodes_after old mid new held units.left.nodes un
+pub arena_so : (mid new : PoolState) (held : List Ref) (stop : Stop) → IsGivenBack stop mid new held → new.arena ≡ mid.arena
+arena_so mid new held Full e = ap (λ (s : PoolState). s.arena) e
+arena_so mid new held Memory un = same_arena mid new un.only
 
-pub parts_so : (l : LayoutState) (p : Problem) (old mid new : PoolState) (held : List Ref) (stop : Stop) → HoldsUnits l p old mid held → IsGivenBack stop mid new held → NewAreOfUnits l p (table old.arena) (table new.arena)
-parts_so l p old mid new held Full units e = subst (λ (s : PoolState). NewAreOfUnits l p (table old.arena) (table s.arena)) (sym e) units.left.parts
-parts_so l p old mid new held Memory units un = parts_after l p old mid new held units.left.parts un
+-- what is there after the pins were spent
+pub record IsLeft (l : LayoutState) (p : Problem) (old : PoolState) (new : ArenaState) : Type 0 where
+  pub reduced : IsReduced (table new)
+  pub limit : new.limit ≡ old.arena.limit
+  pub kept : (rs : List Ref) → AreHeld old rs → MeansTheSame (table old.arena) (table new) rs
+  pub sets : AllAre (table old.arena) (table new) (IsOfUnit l p)
+
+pub left_now : (l : LayoutState) (p : Problem) (old new : PoolState) (held : List Ref) → LeavesUnits l p old new held → IsLeft l p old new.arena
+left_now l p old new held left = record { reduced = left.reduced; limit = left.limit; kept = λ rs is. left.kept rs (held_beside old rs is); sets = left.sets }
+
+pub left_so : (l : LayoutState) (p : Problem) (old mid new : PoolState) (held : List Ref) (stop : Stop) → HoldsUnits l p old mid held → IsGivenBack stop mid new held → IsLeft l p old new.arena
+left_so l p old mid new held stop units spent = subst (IsLeft l p old) (sym (arena_so mid new held stop spent)) (left_now l p old mid held units.left)
 
 pub full_so : (mid new : PoolState) (held : List Ref) (stop : Stop) → (stop ≡ Full → map.len mid.arena.nodes ≡ mid.arena.limit) → IsGivenBack stop mid new held → stop ≡ Full → map.len new.arena.nodes ≡ new.arena.limit
 full_so mid new held Full full e is = subst (λ (s : PoolState). map.len s.arena.nodes ≡ s.arena.limit) (sym e) (full refl)

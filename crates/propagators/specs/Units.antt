@@ -1,6 +1,6 @@
 -- Which nodes a compilation may make. This project's own; parts of a set are the residual words of a decision diagram (Bryant, IEEE
 -- Transactions on Computers, 1986).
-use Rattle.std.specs.Prelude.{◌≡◌, ℕ, ◌<◌, ◌≤◌, Bool, true, List, [], ◌∷◌, ◌++◌, None, Some, IsSomeAnd, length, take, slice_get, Contains, filter_map, option_to_list, ⊤}
+use Rattle.std.specs.Prelude.{◌≡◌, ◌⊎◌, ℕ, ◌<◌, ◌≤◌, Bool, true, List, [], ◌∷◌, ◌++◌, None, Some, IsSomeAnd, length, take, slice_get, Contains, filter_map, option_to_list, ⊤}
 use Rattle.std.specs.List.{AllZip}
 use Rattle.set_meaning.specs.declared.kinds.Value.{Value}
 use Rattle.set_meaning.specs.declared.problems.VarId.{VarId}
@@ -21,6 +21,7 @@ use Rattle.diagram_arena.specs.Part.{IsPartOf}
 use Rattle.diagram_arena.specs.Reach.{Bits, ReachesOnly}
 use Rattle.scope_words.specs.Words.{variables_in, IsBitOf, AreWordsOf}
 use Rattle.node_reclaim.specs.Holders.{Gains}
+use Rattle.pin_lists.specs.Units.{StoodBefore}
 use Rattle.propagators.specs.Compiled.{IsInitialDomain, IsDiagramOfConstraint}
 
 -- ---- conditions on the values of a constraint's variables
@@ -91,8 +92,9 @@ pub data ReachesUnit (l : LayoutState) (p : Problem) (t : Table) (r : Ref) : Typ
   of_variable : (v : VarId) → v.0 < length p.kinds → ReachesOnlyBitsOf l (v ∷ []) t r → ReachesUnit l p t r
   of_constraint : (c : Constraint) → Contains p.constraints c → ReachesOnlyBitsOf l (variables_of c) t r → ReachesUnit l p t r
 
-abbrev pub NewReachUnits : LayoutState → Problem → Table → Table → Type 0
-NewReachUnits l p old new = (i : NodeId) → old i ≡ None → IsLive new (Node i) → ReachesUnit l p new (Node i)
+-- each node has a set that stood before, or reaches only these
+abbrev pub AllReachUnits : LayoutState → Problem → Table → Table → Type 0
+AllReachUnits l p old new = (i : NodeId) → IsLive new (Node i) → StoodBefore old (has new (Node i)) ⊎ ReachesUnit l p new (Node i)
 
 -- ---- what stays pinned
 

@@ -1,5 +1,5 @@
 -- What the parts of a compilation leave. Words of private helpers.
-use Rattle.std.specs.Prelude.{◌≡◌, ℕ, ◌≤◌, Bool, false, List, ◌++◌, None, Some, length, slice_get}
+use Rattle.std.specs.Prelude.{◌≡◌, ℕ, ◌≤◌, Bool, false, List, [], ◌++◌, None, Some, length, slice_get}
 use Rattle.set_meaning.specs.declared.kinds.Value.{Value}
 use Rattle.set_meaning.specs.declared.kinds.Value.TheVariants as value
 use Rattle.set_meaning.specs.declared.problems.VarId.{VarId}
@@ -18,9 +18,9 @@ use Rattle.node_reclaim.specs.Growth.{Stays}
 use Rattle.bit_machine.specs.Rules.{accepts, most_bits}
 use Rattle.table_machine.specs.Tables.{Tables, AreTables, rules}
 use Rattle.scope_words.specs.Words.{AreBitsOf, AreWordsOf}
-use Rattle.node_reclaim.specs.Holders.{Gains, StaysButPins}
+use Rattle.pin_lists.specs.Units.{UnitsLeave}
 use Rattle.propagators.specs.Compiled.{IsInitialDomain}
-use Rattle.propagators.specs.Units.{Anything, IsPartOfWords, IsWantedBy, NewAreOfUnits, AreDone}
+use Rattle.propagators.specs.Units.{Anything, IsPartOfWords, IsWantedBy, IsOfUnit, AreDone}
 
 -- each new node is a part of the set of the words that give these variables values which satisfy C
 abbrev pub NewAreOfWords : LayoutState → List VarId → (List Value → Type 0) → Table → Table → Type 0
@@ -50,11 +50,9 @@ truth_of (value.Set s) = false
 
 -- ---- units that are done and pinned
 
--- but for pins what was there stands, each new node is of one of the units, and these refs were pinned
-pub record LeavesUnits (l : LayoutState) (p : Problem) (old new : PoolState) (rs : List Ref) : Type 0 where
-  pub nodes : StaysButPins old new
-  pub parts : NewAreOfUnits l p (table old.arena) (table new.arena)
-  pub gains : Gains old new rs
+-- what units leave that hold these refs beside what was held
+abbrev pub LeavesUnits : LayoutState → Problem → PoolState → PoolState → List Ref → Type 0
+LeavesUnits l p old new rs = UnitsLeave (IsOfUnit l p) old new [] rs
 
 -- and they stand at the end of the pins that are held
 pub record AddsHeld (l : LayoutState) (p : Problem) (old new : PoolState) (before after rs : List Ref) : Type 0 where

@@ -1,20 +1,23 @@
 //! A problem's initial domains and constraints as diagrams.
-ghost use Rattle.std.specs.Prelude.{◌≡◌, ◌<◌, length, Some, slice_get, IfOk, IfErr, Err};
+ghost use Rattle.std.specs.Prelude.{◌≡◌, ◌<◌, List, length, Some, slice_get, IfOk, IfErr, Err};
+ghost use Rattle.diagram_arena.specs.declared.nodes.Ref.{Ref as AnyRef};
+ghost use Rattle.diagram_arena.specs.Table.{IsReduced};
 ghost use Rattle.diagram_arena.specs.Arena.{table};
 ghost use Rattle.node_reclaim.specs.Pool.{Unpins};
 ghost use Rattle.problem_limits.specs.Limits.{KeepsLimits};
-ghost use Rattle.node_reclaim.specs.Holders.{Gains, AreHeld, StaysButPins};
+ghost use Rattle.node_reclaim.specs.Holders.{Gains, AreHeld, MeansTheSame};
+ghost use Rattle.pin_lists.specs.Units.{AllAre};
 ghost use Rattle.propagators.specs.Compiled.{pinned_by, IsCompiled};
-ghost use Rattle.propagators.specs.Units.{NewAreOfUnits, NewReachUnits, PinsAfter};
+ghost use Rattle.propagators.specs.Units.{IsOfUnit, AllReachUnits, PinsAfter};
 ghost use Rattle.propagators.specs.Work.{IsGivenBack};
 ghost use Rattle.node_reclaim.specs.Growth.{IsFull};
 
-use crate::held::HeldPins;
 use crate::units::{Units, compile};
 use bit_layout::Layout;
 use diagram_arena::{Ref, Stop};
 use diagram_ops::Ops;
 use listed::Listed;
+use pin_lists::PinList;
 use set_meaning::{ConId, Problem, VarId};
 use std::alloc::Global;
 use std::marker::Model;
@@ -25,7 +28,7 @@ pub struct Compiled {
     start: Vec<Ref>,
     scopes: Vec<Listed<VarId>>,
     diagrams: Vec<Ref>,
-    pins: HeldPins,
+    pins: PinList,
 }
 
 impl Model for Compiled {
@@ -44,23 +47,28 @@ impl Compiled {
     /// constraint. The diagram of a constraint with a truth value is made of that of its relation: where the value is true the relation
     /// holds, and where it is false it fails.
     ///
-    /// Each result is pinned. After Memory the pins were taken back; after Full they stay for good (`Pin::leave`). Full comes only where
-    /// the pool has as many nodes as its limit allows. Nodes that were made before a refusal stay: nothing is collected yet. A diagram over
-    /// k bits has fewer than 2^k nodes; a constraint's bits are those of its scope, at most 2,048.
+    /// Each result is pinned. Where a unit finds no room, the nodes that no pin reaches are freed and the unit is tried once more; a second
+    /// refusal is Full. So no ref that is not pinned stays, and what is pinned keeps its meaning. After Memory the pins were taken back;
+    /// after Full they stay for good (`PinList::leave`). A diagram over k bits has fewer than 2^k nodes; a constraint's bits are those of
+    /// its scope, at most 2,048.
     pub fn new(alloc: Global, p: &Problem, layout: &Layout, ops: &mut Ops) -> Result<Compiled, Stop>
         requires limits { KeepsLimits p.now }
         requires layout { layout.now.kinds ≡ p.now.kinds }
         ensures compiled { IfOk result (IsCompiled layout.now p.now (table ops.new.arena)) }
         ensures pins { IfOk result (λ k. Gains ops.old ops.new (pinned_by k)) }
         ensures stopped { IfErr result (PinsAfter layout.now p.now ops.old ops.new) }
-        ensures nodes { StaysButPins ops.old ops.new }
         ensures full { result ≡ Err Stop.Full → IsFull ops.new }
-        ensures wanted { NewAreOfUnits layout.now p.now (table ops.old.arena) (table ops.new.arena) }
-        ensures reach { NewReachUnits layout.now p.now (table ops.old.arena) (table ops.new.arena) }
+
+        // What stays, and which nodes are there after Err too: those whose sets stood before, and those of units.
+        ensures reduced { IsReduced (table ops.new.arena) }
+        ensures limit { ops.new.arena.limit ≡ ops.old.arena.limit }
+        ensures kept { (rs : List AnyRef) → AreHeld ops.old rs → MeansTheSame (table ops.old.arena) (table ops.new.arena) rs }
+        ensures wanted { AllAre (table ops.old.arena) (table ops.new.arena) (IsOfUnit layout.now p.now) }
+        ensures reach { AllReachUnits layout.now p.now (table ops.old.arena) (table ops.new.arena) }
     {
         // What holds of every layout.
         layout.obeys_order();
-        let mut pins = HeldPins::new(alloc);
+        let mut pins = PinList::new(alloc);
         match compile(alloc, p, layout, ops, &mut pins) {
             Ok(units) => {
                 let Units {
@@ -132,7 +140,7 @@ impl Compiled {
 }
 
 /// Spends the pins of a compilation that was stopped: where there was no room their nodes stay pinned.
-fn give_back(ops: &mut Ops, pins: HeldPins, stop: Stop)
+fn give_back(ops: &mut Ops, pins: PinList, stop: Stop)
     requires { AreHeld ops.old pins }
     ensures { IsGivenBack stop ops.old ops.new pins }
 {

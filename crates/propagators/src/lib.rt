@@ -5,7 +5,6 @@
 #![tactic(auto)]
 
 mod compiled;
-mod held;
 mod initial;
 mod laws;
 mod reified;

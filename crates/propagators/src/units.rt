@@ -1,4 +1,5 @@
-//! The units of a compilation, one after another: the domain of each variable's initial values, and the diagram of each constraint.
+//! The units of a compilation, one after another: the domain of each variable's initial values, and the diagram of each constraint. Where
+//! a unit finds no room, what no pin reaches is reclaimed, and the unit is tried once more.
 ghost use Rattle.std.specs.Prelude.{◌≡◌, [], ◌∷◌, ◌++◌, All, Contains, Some, length, slice_get, Err, IfOk, OnOk, OnErr};
 ghost use Rattle.std.specs.List.{AllZip};
 ghost use Rattle.set_meaning.specs.Relations.{IsScope};
@@ -10,14 +11,15 @@ ghost use Rattle.propagators.specs.Compiled.{IsInitialDomain, AreInitialDomains,
 ghost use Rattle.scope_words.specs.Words.{HaveFewBits};
 ghost use Rattle.propagators.specs.Work.{LeavesUnits, AddsHeld, AreFirstDomains, HoldsConstraints, HoldsUnits};
 ghost use Rattle.node_reclaim.specs.Growth.{IsFull};
+ghost use Rattle.node_reclaim.specs.Holders.{AreHeld};
 
-use crate::held::HeldPins;
 use crate::initial::initial_domain;
 use crate::reified::constraint_diagram;
 use bit_layout::Layout;
 use diagram_arena::{Ref, Stop};
 use diagram_ops::Ops;
 use listed::Listed;
+use pin_lists::{PinList, collect};
 use set_meaning::{Constraint, Kind, Problem, VarId, scope};
 use std::alloc::{AllocError, Global};
 
@@ -35,7 +37,7 @@ pub(crate) fn compile(
     p: &Problem,
     layout: &Layout,
     ops: &mut Ops,
-    pins: &mut HeldPins,
+    pins: &mut PinList,
 ) -> Result<Units, Stop>
     requires limits { KeepsLimits p.now }
     requires layout { layout.now.kinds ≡ p.now.kinds }
@@ -62,7 +64,7 @@ fn domains(
     p: &Problem,
     layout: &Layout,
     ops: &mut Ops,
-    pins: &mut HeldPins,
+    pins: &mut PinList,
 ) -> Result<Vec<Ref>, Stop>
     requires limits { KeepsLimits p.now }
     requires layout { layout.now.kinds ≡ p.now.kinds }
@@ -91,7 +93,7 @@ fn held_domain(
     p: &Problem,
     v: VarId,
     kind: &Kind,
-    pins: &mut HeldPins,
+    pins: &mut PinList,
 ) -> Result<Ref, Stop>
     requires layout { layout.now.kinds ≡ p.now.kinds }
     requires kind { slice_get layout.now.kinds v.0 ≡ Some kind.now }
@@ -100,6 +102,36 @@ fn held_domain(
     ensures refused { OnErr result (AddsHeld layout.now p.now ops.old ops.new pins.old pins.new []) }
     ensures full { result ≡ Err Stop.Full → IsFull ops.new }
 {
+    match made_domain(alloc, ops, layout, p, v, kind, pins) {
+        Ok(r) => Ok(r),
+        Err(Stop::Memory) => Err(Stop::Memory),
+        Err(Stop::Full) => {
+            collect(ops);
+            made_domain(alloc, ops, layout, p, v, kind, pins)
+        }
+    }
+}
+
+/// One try of that unit.
+fn made_domain(
+    alloc: Global,
+    ops: &mut Ops,
+    layout: &Layout,
+    p: &Problem,
+    v: VarId,
+    kind: &Kind,
+    pins: &mut PinList,
+) -> Result<Ref, Stop>
+    requires layout { layout.now.kinds ≡ p.now.kinds }
+    requires kind { slice_get layout.now.kinds v.0 ≡ Some kind.now }
+    ensures domain { IfOk result (IsInitialDomain layout.now (table ops.new.arena) v) }
+    ensures held { IfOk result (λ r. AddsHeld layout.now p.now ops.old ops.new pins.old pins.new (r ∷ [])) }
+    ensures refused { OnErr result (AddsHeld layout.now p.now ops.old ops.new pins.old pins.new []) }
+    ensures full { result ≡ Err Stop.Full → IsFull ops.new }
+{
+    // What holds of every pool.
+    let _ = ops.pool();
+    ops.begin_unit();
     let r = initial_domain(alloc, ops, layout, p.kinds.items(), v, kind)?;
     pins.hold(ops, r)?;
     Ok(r)
@@ -112,12 +144,13 @@ fn constraints(
     layout: &Layout,
     ops: &mut Ops,
     start: &[Ref],
-    pins: &mut HeldPins,
+    pins: &mut PinList,
 ) -> Result<(Vec<Listed<VarId>>, Vec<Ref>), Stop>
     requires limits { KeepsLimits p.now }
     requires layout { layout.now.kinds ≡ p.now.kinds }
     requires domains { AreFirstDomains layout.now p.now (table ops.old.arena) start.now }
     requires pinned { pins.old ≡ start.now }
+    requires held { AreHeld ops.old start.now }
     ensures scopes { IfOk result (λ r. AllZip IsScope p.now.constraints r.0.items) }
     ensures diagrams { IfOk result (λ r. AllZip (IsDiagramOfConstraint layout.now (table ops.new.arena)) p.now.constraints r.1.items) }
     ensures pinned { IfOk result (λ r. pins.new ≡ start.now ++ r.1.items) }
@@ -145,7 +178,7 @@ fn held_diagram(
     layout: &Layout,
     p: &Problem,
     c: &Constraint,
-    pins: &mut HeldPins,
+    pins: &mut PinList,
 ) -> Result<Ref, Stop>
     requires listed { Contains p.now.constraints c.now }
     requires fits { FitsRow p.now.kinds c.now }
@@ -158,11 +191,43 @@ fn held_diagram(
     ensures refused { OnErr result (AddsHeld layout.now p.now ops.old ops.new pins.old pins.new []) }
     ensures full { result ≡ Err Stop.Full → IsFull ops.new }
 {
-    // What holds of every layout.
+    match made_diagram(alloc, ops, layout, p, c, pins) {
+        Ok(r) => Ok(r),
+        Err(Stop::Memory) => Err(Stop::Memory),
+        Err(Stop::Full) => {
+            collect(ops);
+            made_diagram(alloc, ops, layout, p, c, pins)
+        }
+    }
+}
+
+/// One try of that unit.
+fn made_diagram(
+    alloc: Global,
+    ops: &mut Ops,
+    layout: &Layout,
+    p: &Problem,
+    c: &Constraint,
+    pins: &mut PinList,
+) -> Result<Ref, Stop>
+    requires listed { Contains p.now.constraints c.now }
+    requires fits { FitsRow p.now.kinds c.now }
+    requires layout { layout.now.kinds ≡ p.now.kinds }
+    requires numbers { All HasSmallNumbers p.now.kinds }
+    requires limits { IsWithinLimits p.now.kinds c.now }
+    requires few { HaveFewBits layout.now (variables_in c.now.args) }
+    ensures diagram { IfOk result (IsDiagramOfConstraint layout.now (table ops.new.arena) c.now) }
+    ensures held { IfOk result (λ r. AddsHeld layout.now p.now ops.old ops.new pins.old pins.new (r ∷ [])) }
+    ensures refused { OnErr result (AddsHeld layout.now p.now ops.old ops.new pins.old pins.new []) }
+    ensures full { result ≡ Err Stop.Full → IsFull ops.new }
+{
+    // What holds of every layout and pool.
     layout.obeys_order();
-    let r = constraint_diagram(alloc, ops, layout, p, c)?;
-    pins.hold(ops, r)?;
-    Ok(r)
+    let _ = ops.pool();
+    ops.begin_unit();
+    let diagram = constraint_diagram(alloc, ops, layout, p, c)?;
+    pins.hold(ops, diagram)?;
+    Ok(diagram)
 }
 
 /// Appends the item, which is dropped where memory is wanted.

@@ -2,6 +2,8 @@ use Rattle.std.proofs.Common.{◌∙◌, sym, subst}
 use Rattle.diagram_arena.specs.Arena.{table}
 use Rattle.propagators.specs.Work.{AreFirstDomains, LeavesUnits}
 use Rattle.propagators.proofs.Holding.{domains_units, constraints_units, compiled_start}
+use Rattle.node_reclaim.specs.Holders.{AreHeld}
+use Rattle.propagators.proofs.Reaching.{held_there}
 use Rattle.propagators.proofs.units.compile.Goals as goal
 
 pub returns-in_err-start-clause-held : goal.returns-in_err-start-clause-held
@@ -13,6 +15,10 @@ constraints-requires-clause-domains c =
 
 pub constraints-requires-clause-pinned : goal.constraints-requires-clause-pinned
 constraints-requires-clause-pinned c = c.in_ok-start.ensures.pinned ∙ sym c.as_slice.ensures.value
+
+pub constraints-requires-clause-held : goal.constraints-requires-clause-held
+constraints-requires-clause-held c =
+    subst (AreHeld c.domains.new.ops) (c.in_ok-start.ensures.pinned ∙ sym c.as_slice.ensures.value) (held_there c.args.layout.now c.args.p.now c.args.ops.now c.domains.new.ops c.domains.new.pins c.domains.ensures.left)
 
 pub returns-in_err-scopes-clause-held : goal.returns-in_err-scopes-clause-held
 returns-in_err-scopes-clause-held c =

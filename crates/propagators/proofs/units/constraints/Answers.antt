@@ -24,7 +24,7 @@ at_all items all i c same at = subst (λ (cs : List Constraint). c ≡ get_or cs
 
 pub loop-c-init : goal.loop-c-init
 loop-c-init c =
-    constraints_first c.args.layout.now c.args.p.now c.args.ops.now c.args.start.now c.args.pins.now c.new-scopes.result.items c.new-diagrams.result.items c.pool.ensures.reduced c.new-scopes.ensures.items c.new-diagrams.ensures.items c.requires.domains c.requires.pinned
+    constraints_first c.args.layout.now c.args.p.now c.args.ops.now c.args.start.now c.args.pins.now c.new-scopes.result.items c.new-diagrams.result.items c.pool.ensures.pinned_live c.pool.ensures.reduced c.new-scopes.ensures.items c.new-diagrams.ensures.items c.requires.domains c.requires.held c.requires.pinned
 
 pub held_diagram-requires-clause-listed : goal.held_diagram-requires-clause-listed
 held_diagram-requires-clause-listed c = listed c.items-c-items.result.now c.args.p.now.constraints c.loop-c.c-index c.c-item.result c.items-c-items.ensures c.loop-c-test.true c.c-item.is

@@ -8,7 +8,7 @@ use Rattle.propagators.proofs.Holding.{domains_first, domains_refused, domains_m
 use Rattle.propagators.proofs.units.domains.Goals as goal
 
 pub loop-v-init : goal.loop-v-init
-loop-v-init c = domains_first c.args.layout.now c.args.p.now c.args.ops.now c.new-start.result.items c.args.pins.now c.pool.ensures.reduced c.new-start.ensures.items c.requires.empty
+loop-v-init c = domains_first c.args.layout.now c.args.p.now c.args.ops.now c.new-start.result.items c.args.pins.now c.pool.ensures.pinned_live c.pool.ensures.reduced c.new-start.ensures.items c.requires.empty
 
 pub overflow_cast-v : goal.overflow_cast-v
 overflow_cast-v c =

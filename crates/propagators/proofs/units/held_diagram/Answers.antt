@@ -1,30 +1,8 @@
-use Rattle.std.proofs.Common.{[], ◌∷◌, refl, sym, subst, ◌∙◌, append-nil}
-use Rattle.diagram_arena.specs.Arena.{ArenaState, table}
-use Rattle.propagators.specs.Compiled.{IsDiagramOfConstraint}
-use Rattle.propagators.proofs.Holding.{on_err, adds, adds_none, constraint_units}
-use Rattle.propagators.proofs.Reaching.{same_arena}
+use Rattle.propagators.proofs.Holding.{held_again, refused_again}
 use Rattle.propagators.proofs.units.held_diagram.Goals as goal
 
-pub hold-requires : goal.hold-requires
-hold-requires c = c.in_ok-r.ensures.diagram.live
+pub returns-in-Err-Full-clause-held : goal.returns-in-Err-Full-clause-held
+returns-in-Err-Full-clause-held c = held_again c.args.layout.now c.args.p.now c.args.ops.now c.made_diagram.new.ops c.collect.new.ops c.made_diagram-in-Err-Full.new.ops c.args.pins.now c.made_diagram.new.pins c.made_diagram-in-Err-Full.new.pins c.made_diagram-in-Err-Full.result c.in-Err-Full.ensures.refused c.collect.ensures c.made_diagram-in-Err-Full.ensures.held
 
-pub returns-clause-diagram : goal.returns-clause-diagram
-returns-clause-diagram c =
-    subst (λ (a : ArenaState). IsDiagramOfConstraint c.args.layout.now (table a) c.args.c.now c.in_ok-r.r) (sym (same_arena c.constraint_diagram.new.ops c.hold.new.ops c.hold.ensures.only)) c.in_ok-r.ensures.diagram
-
-pub returns-clause-held : goal.returns-clause-held
-returns-clause-held c =
-    adds c.args.layout.now c.args.p.now c.args.ops.now c.constraint_diagram.new.ops c.hold.new.ops c.args.pins.now c.hold.new.self (c.in_ok-r.r ∷ []) c.constraint_diagram.ensures.leaves.stays
-    (constraint_units c.args.layout.now c.args.p.now c.args.c.now (table c.args.ops.now.arena) (table c.constraint_diagram.new.ops.arena) c.requires.listed c.constraint_diagram.ensures.leaves.parts)
-    (same_arena c.constraint_diagram.new.ops c.hold.new.ops c.hold.ensures.only) c.in_ok-hold.ensures.gained c.in_ok-hold.ensures.listed
-
-pub returns-in_err-r-clause-refused : goal.returns-in_err-r-clause-refused
-returns-in_err-r-clause-refused c = on_err c.from_residual.result _ (
-    adds_none c.args.layout.now c.args.p.now c.args.ops.now c.constraint_diagram.new.ops c.args.pins.now c.args.pins.now c.constraint_diagram.ensures.leaves.stays
-    (constraint_units c.args.layout.now c.args.p.now c.args.c.now (table c.args.ops.now.arena) (table c.constraint_diagram.new.ops.arena) c.requires.listed c.constraint_diagram.ensures.leaves.parts) refl)
-
-pub returns-in_err-hold-clause-refused : goal.returns-in_err-hold-clause-refused
-returns-in_err-hold-clause-refused c = on_err c.from_residual-in_err-hold.result _ (
-    adds c.args.layout.now c.args.p.now c.args.ops.now c.constraint_diagram.new.ops c.hold.new.ops c.args.pins.now c.hold.new.self [] c.constraint_diagram.ensures.leaves.stays
-    (constraint_units c.args.layout.now c.args.p.now c.args.c.now (table c.args.ops.now.arena) (table c.constraint_diagram.new.ops.arena) c.requires.listed c.constraint_diagram.ensures.leaves.parts)
-    (same_arena c.constraint_diagram.new.ops c.hold.new.ops c.hold.ensures.only) c.in_err-hold.ensures.ungained (c.in_err-hold.ensures.same ∙ sym (append-nil c.args.pins.now)))
+pub returns-in-Err-Full-clause-refused : goal.returns-in-Err-Full-clause-refused
+returns-in-Err-Full-clause-refused c = refused_again c.args.layout.now c.args.p.now c.args.ops.now c.made_diagram.new.ops c.collect.new.ops c.made_diagram-in-Err-Full.new.ops c.args.pins.now c.made_diagram.new.pins c.made_diagram-in-Err-Full.new.pins c.made_diagram-in-Err-Full.result c.in-Err-Full.ensures.refused c.collect.ensures c.made_diagram-in-Err-Full.ensures.refused

@@ -1,5 +1,0 @@
-use Rattle.std.proofs.Common.{vec_len}
-use Rattle.propagators.proofs.held.HeldPins.leave.Given as goal
-
-abbrev pub decreases-loop-pin : goal.decreases-loop-pin
-decreases-loop-pin l = vec_len l.pins
