@@ -166,11 +166,7 @@ fn attempt(
 }
 
 /// Pins each of the refs at its variable's place, in place of what was there.
-fn put(
-    ops: &mut Ops,
-    domains: &mut PinList,
-    kept: &[(VarId, Ref)],
-) -> Result<(), AllocError>
+fn put(ops: &mut Ops, domains: &mut PinList, kept: &[(VarId, Ref)]) -> Result<(), AllocError>
     requires known { All (λ e. e.0.0 < length domains.old) kept.now }
     requires live { All (λ e. IsLive (table ops.old.arena) e.1) kept.now }
     requires held { AreHeld ops.old domains.old }

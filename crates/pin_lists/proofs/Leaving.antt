@@ -1,22 +1,20 @@
 -- What units leave, one after another.
-use Rattle.std.proofs.Common.{◌≡◌, ◌⊎◌, ℕ, ◌+◌, ◌<◌, ◌≤◌, Bool, List, [], ◌∷◌, ◌++◌, length, get_or, zero, suc, Option, None, Some, refl, sym, ap, ◌∙◌, subst, inl, inr, eq-eqb, arith, Contains}
+use Rattle.std.proofs.Common.{◌≡◌, ◌⊎◌, ℕ, ◌+◌, ◌<◌, Bool, List, [], ◌∷◌, ◌++◌, length, get_or, zero, suc, None, Some, refl, sym, ap, ◌∙◌, subst, inl, inr, eq-eqb, arith, Contains}
 use Rattle.std.specs.Prelude.{if◌then◌else◌}
 use Rattle.std.specs.Option.{unwrap_or}
 use Rattle.std.specs.FinMap as map
 use Rattle.std.proofs.Math.Path.{fun_ext}
-use Rattle.std.proofs.lemmas.List.Elements.{Contains-append_left}
 use Rattle.diagram_arena.specs.declared.nodes.NodeId.{NodeId}
 use Rattle.diagram_arena.specs.declared.nodes.Ref.{Ref}
 use Rattle.diagram_arena.specs.declared.nodes.Ref.TheVariants.{Zero, One, Node}
-use Rattle.diagram_arena.specs.declared.nodes.Triple.{Triple}
-use Rattle.diagram_arena.specs.Table.{Word, Words, Table, id_cmp, has, IsLive, IsReduced}
+use Rattle.diagram_arena.specs.Table.{Words, Table, id_cmp, has, IsLive, IsReduced}
 use Rattle.diagram_arena.specs.Arena.{ArenaState, table, Grows}
 use Rattle.diagram_arena.proofs.Meaning.{live_from}
-use Rattle.node_reclaim.specs.Pool.{PoolState, pins_of, times, Pins, Unpins}
+use Rattle.node_reclaim.specs.Pool.{PoolState, pins_of, times}
 use Rattle.node_reclaim.specs.Growth.{Stays, NewAre}
 use Rattle.node_reclaim.specs.Holders.{Gains, AreHeld, MeansTheSame}
 use Rattle.node_reclaim.specs.Reclaim.{Reclaims}
-use Rattle.pin_lists.specs.Units.{PinnedAreLive, Moves, KeepsHeld, StoodBefore, AllAre, UnitsLeave, Collects}
+use Rattle.pin_lists.specs.Units.{PinnedAreLive, Moves, StoodBefore, AllAre, UnitsLeave, Collects}
 use Rattle.pin_lists.proofs.Counting.{times-append}
 
 -- ---- what is held

@@ -142,7 +142,7 @@ domains_more l p old a b start held after i v r so within number is more =
     let long : length held ≡ v.0 = ap length so.same ∙ so.long ∙ sym number in
     let inside : v.0 < length p.kinds = omega (arith, number, within) in
     subst (DomainsHeld l p old b) (sym more.held) (record {
-      done = first_domains_push l p (table b.arena) held v r 
+      done = first_domains_push l p (table b.arena) held v r
           (first_domains_same l p (table a.arena) (table b.arena) held (keeps_first l p a b held (r ∷ []) more.left (held_after old a [] held so.left.pins (held_none old))) so.done) long inside is;
       left = units_next l p old a b held (r ∷ []) so.left more.left;
     })
