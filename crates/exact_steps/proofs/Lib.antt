@@ -6,5 +6,4 @@ pub mod Products
 pub mod Changes
 pub mod Ending
 pub mod Constraints
-pub mod Samples
 pub mod Replacing

@@ -20,6 +20,3 @@ pub use laws::{
     narrowed_domains, steps_are_those_of_the_rules, steps_of_a_condition,
 };
 pub use steps::{StepResult, step};
-
-#[cfg(test)]
-mod tests;

@@ -8,6 +8,3 @@ mod rows;
 mod search;
 
 pub use search::{LastState, NotBegun, RootFound, Search, SearchEnd, StopFault};
-
-#[cfg(test)]
-mod tests;

@@ -9,4 +9,3 @@ pub mod Building
 pub mod Initials
 pub mod Holding
 pub mod Reaching
-pub mod Samples

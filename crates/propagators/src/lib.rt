@@ -18,10 +18,3 @@ pub use laws::{compiled_stays, initial_domains_are_domains};
 pub use relations::relations_have_one_kind;
 pub use steps::step;
 pub use value_bounds::root_bounds;
-
-#[cfg(test)]
-mod cases;
-#[cfg(test)]
-mod small_domains;
-#[cfg(test)]
-mod tests;

@@ -2,4 +2,3 @@ pub mod Spelling
 pub mod Orders
 pub mod Membership
 pub mod Closing
-pub mod Samples

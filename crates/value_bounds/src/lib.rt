@@ -6,6 +6,3 @@ mod bounding;
 mod ends;
 
 pub use bounding::root_bounds;
-
-#[cfg(test)]
-mod tests;

@@ -1,6 +1,0 @@
-use Rattle.diagram_arena.specs.Arena.{table}
-use Rattle.exact_steps.proofs.Samples.{one_domain}
-use Rattle.exact_steps.proofs.tests.domain.Goals as goal
-
-pub returns-in-None-clause-domain : goal.returns-in-None-clause-domain
-returns-in-None-clause-domain c = one_domain c.args.layout.now (table c.args.ops.now.arena) c.args.v c.obeys_order.ensures c.requires.sets c.requires.known

@@ -1,0 +1,5 @@
+//! Tests of searches: learn_search.
+#![tactic(auto)]
+
+#[cfg(test)]
+mod roots;

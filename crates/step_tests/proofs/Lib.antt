@@ -1,0 +1,3 @@
+pub mod StepSamples
+pub mod BoundSamples
+pub mod CompiledSamples
