@@ -1,6 +1,6 @@
 -- The rules of a valid line of a log, after the lines before it and for a problem. The format and its rules are this project's own;
 -- that a log of derived nogoods is checked line by line is as with clausal proofs (Goldberg and Novikov, DATE 2003).
-use Rattle.std.specs.Prelude.{◌≡◌, ℕ, ◌<◌, zero, ◌≤ℤ◌, Bool, true, List, [], map, length, Option, None, Some, IsSome, IsSomeAnd, IfSome, slice_get, All, Any, ⊤}
+use Rattle.std.specs.Prelude.{◌≡◌, ℕ, ℤ, ◌<◌, ◌≤ℤ◌, Bool, true, false, List, [], map, length, Option, None, Some, IsSome, IsSomeAnd, IfSome, slice_get, All, Any, ⊤}
 use Rattle.set_meaning.specs.declared.kinds.Value.{Value}
 use Rattle.set_meaning.specs.declared.kinds.Value.TheVariants as value
 use Rattle.set_meaning.specs.declared.kinds.Kind.{Kind}
@@ -25,8 +25,8 @@ use Rattle.log_rules.specs.States.{LogState, box_in, box_at, value_in}
 
 -- the header is the first line, and no other line is
 abbrev pub IsInPlace : LogState → Line → Type 0
-IsInPlace s lines.Header = s.lines ≡ 0
-IsInPlace s line = 0 < s.lines
+IsInPlace s lines.Header = s.begun ≡ false
+IsInPlace s line = s.begun ≡ true
 
 -- a new node, or a new box, has the next number
 abbrev pub HasNextNumber : LogState → Line → Type 0

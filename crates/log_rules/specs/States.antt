@@ -1,5 +1,5 @@
 -- What the lines of a log have made so far: a reading of the lines in whole lists. This project's own.
-use Rattle.std.specs.Prelude.{ℕ, ◌+◌, Bool, true, false, List, [], ◌∷◌, ◌++◌, map, length, Option, None, Some, slice_get, filter_map, option_to_list}
+use Rattle.std.specs.Prelude.{ℕ, nat_lt, Bool, true, false, List, [], ◌∷◌, ◌++◌, map, length, Option, None, Some, slice_get, filter_map, option_to_list}
 use Rattle.set_meaning.specs.declared.kinds.Value.{Value}
 use Rattle.set_meaning.specs.declared.kinds.Value.TheVariants as value
 use Rattle.log_text.specs.declared.line.LogValue.{LogValue}
@@ -54,9 +54,9 @@ listed_answers log = filter_map answer_in log
 unfoldable pub ends_of : List Line → List End
 ends_of log = filter_map end_in log
 
--- What the rules read of the lines before: how many there are, the table, the boxes, the answers and the ends.
+-- What the rules read of the lines before: whether there are any, the table, the boxes, the answers and the ends.
 pub record LogState : Type 0 where
-  pub lines : ℕ
+  pub begun : Bool
   pub table : List Node
   pub boxes : List Sides
   pub answers : List (List Value)
@@ -64,7 +64,7 @@ pub record LogState : Type 0 where
 
 unfoldable pub state_of : List Line → LogState
 state_of log = record {
-  lines = length log;
+  begun = nat_lt 0 (length log);
   table = table_of log;
   boxes = boxes_of log;
   answers = listed_answers log;
@@ -74,7 +74,7 @@ state_of log = record {
 -- with one more line
 abbrev pub after : LogState → Line → LogState
 after s line = record {
-  lines = s.lines + 1;
+  begun = true;
   table = s.table ++ option_to_list (node_in line);
   boxes = s.boxes ++ option_to_list (box_in line);
   answers = s.answers ++ option_to_list (answer_in line);
