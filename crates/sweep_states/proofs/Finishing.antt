@@ -17,10 +17,10 @@ finishes_none {P = P} {Q = Q} accept = record {
 }
 
 taken_more : {P Q : Type 0} (accept : Q → Bool) (pairs : List (P × Q)) (ends : List P) (s : P × Q) → accept s.1 ≡ true → Finishes accept pairs ends → Finishes accept (pairs ++ s ∷ []) (ends ++ s.0 ∷ [])
-taken_more {P = P} {Q = Q} accept pairs ends s yes h = record {
+taken_more {P = P} {Q = Q} accept pairs ends s is_taken h = record {
   only = λ q here. elim (Contains-push_cases ends s.0 q here) [
     | inl before ↦ let o = h.only q before in (o.0, Contains-append_left {X = P × Q} pairs (s ∷ []) (q, o.0) o.1, o.2)
-    | inr e ↦ let R : P → Type 0 = λ p. (t : Q) × Contains {X = P × Q} (pairs ++ s ∷ []) (p, t) × (accept t ≡ true) in subst R e (s.1, Contains-push {X = P × Q} pairs s, yes)
+    | inr e ↦ let R : P → Type 0 = λ p. (t : Q) × Contains {X = P × Q} (pairs ++ s ∷ []) (p, t) × (accept t ≡ true) in subst R e (s.1, Contains-push {X = P × Q} pairs s, is_taken)
   ];
   every = λ t here. elim (Contains-push_cases {X = P × Q} pairs s t here) [
     | inl before ↦ λ a. Contains-append_left ends (s.0 ∷ []) t.0 (h.every t before a)

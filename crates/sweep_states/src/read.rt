@@ -34,7 +34,8 @@ pub fn read_through<S: Shape, T: Shape>(
     for i in 0..count {
         pairs = advance(alloc, shape, from, filter, i, pairs.as_slice())?;
     }
-    finish(alloc, shape, from, filter, count, pairs.as_slice())
+    let ends = finish(alloc, shape, from, filter, count, pairs.as_slice())?;
+    Ok(ends)
 }
 
 /// Each state beside the filter's start.

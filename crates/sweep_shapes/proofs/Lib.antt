@@ -1,0 +1,6 @@
+mod Alike
+mod Known
+mod Lists
+mod Trying
+mod Opening
+mod Satisfying

@@ -1,0 +1,10 @@
+//! Whether some initial values in the sides of a box satisfy a constraint.
+//!
+//! `possible` is what the checker of a log asks of an axiom. What it answers is a word of `log_rules`.
+#![tactic(auto)]
+
+mod choices;
+mod possible;
+mod trials;
+
+pub use possible::possible;

@@ -1,0 +1,147 @@
+//! The initial values of a variable as a shape.
+ghost use Rattle.std.specs.Prelude.{◌≡◌, ◌↔◌, ◌+◌, ◌*◌, ◌^◌, ◌<◌, ◌≤◌, ◌≤ℤ◌, true, false, Bool, List, map, take, length, IfOk};
+ghost use Rattle.set_meaning.specs.declared.kinds.Kind.{Kind as AnyKind};
+ghost use Rattle.set_meaning.specs.declared.kinds.Value.{Value};
+ghost use Rattle.set_meaning.specs.Problems.{IsKind};
+ghost use Rattle.set_meaning.specs.Sets.{IsAscending};
+ghost use Rattle.bit_layout.specs.Limits.{IsNarrow, counted_bits};
+ghost use Rattle.bit_layout.specs.Words.{IsValueOf, distance, least, span, width_of};
+ghost use Rattle.sweep_rules.specs.Rules.{accepts};
+ghost use Rattle.sweep_values.specs.Parts.{part_true};
+ghost use Rattle.sweep_values.specs.Domains.{OccursAt, Rises, below, domain_rules, is_every, is_free, offsets_of, settle};
+
+use crate::part::Part;
+use bit_layout::width;
+use set_meaning::Kind;
+use std::alloc::{AllocError, Global};
+use sweep_rules::Shape;
+
+/// The words of the initial values of a kind. For a Boolean or a set variable that is each word of its width; for an integer variable
+/// those whose number is the offset of one of its values from the least.
+#[derive(Drop)]
+pub struct Domain {
+    offsets: Vec<u32>,
+    width: u32,
+    free: bool,
+}
+
+impl Domain {
+    /// The shape of the words of the kind's initial values. Time and memory are linear in the integers that an integer variable lists. An
+    /// `Err` is want of memory.
+    pub fn of(alloc: Global, kind: &Kind) -> Result<Domain, AllocError>
+        requires kind { IsKind kind.now }
+        requires narrow { IsNarrow kind.now }
+        requires bits { counted_bits kind.now ≤ 1048576 }
+        ensures offsets { IfOk result (λ s. s.offsets.items ≡ offsets_of kind.now) }
+        ensures width { IfOk result (λ s. s.width ≡ width_of kind.now) }
+        ensures free { IfOk result (λ s. s.free ≡ is_free kind.now) }
+        ensures valid { IfOk result (λ s. Rises s.offsets.items × (s.free ≡ false → s.width ≤ 16)) }
+    {
+        let offsets = match kind {
+            Kind::Bool => Vec::new(alloc),
+            Kind::Int(numbers) => offsets(alloc, numbers.elements())?,
+            Kind::Set(_) => Vec::new(alloc),
+        };
+        Ok(Domain {
+            offsets,
+            width: width(kind),
+            free: !matches!(kind, Kind::Int(_)),
+        })
+    }
+}
+
+/// Does nothing. Its contract is the law that the shape of a kind accepts just the words of the kind's initial values.
+pub fn domains_accept_values()
+    ensures { (kind : AnyKind) (word : List Bool) → IsKind kind → IsNarrow kind → length word ≡ width_of kind
+        → (accepts (domain_rules (offsets_of kind) (width_of kind) (is_free kind)) word ≡ true) ↔ ((x : Value) × IsValueOf kind word x) }
+{}
+
+impl Shape for Domain {
+    type State = Part;
+
+    ghost rules = { λ s. domain_rules s.offsets.items s.width s.free };
+
+    ghost places = { λ s. s.width };
+
+    ghost valid = { λ s. Rises s.offsets.items × (s.free ≡ false → s.width ≤ 16) };
+
+    ghost occurs = { λ s at q. OccursAt s.width at q };
+
+    ghost identical = { part_true };
+
+    fn start(&self) -> Part {
+        if self.free {
+            return Part::Every;
+        }
+        settle(self.offsets.as_slice(), self.width, 0)
+    }
+
+    fn step(&self, at: usize, state: Part, value: bool) -> Part {
+        match state {
+            Part::Every => Part::Every,
+            Part::Partly(prefix) => settle(
+                self.offsets.as_slice(),
+                self.width - (at as u32 + 1),
+                2 * prefix + u32::from(value),
+            ),
+            Part::Nothing => Part::Nothing,
+        }
+    }
+
+    fn accepts(&self, state: Part) -> bool {
+        matches!(state, Part::Every)
+    }
+
+    fn is_lost(&self, state: Part) -> bool {
+        matches!(state, Part::Nothing)
+    }
+}
+
+/// Which of the numbers that begin with these binary digits are listed, where so many digits are to come.
+fn settle(offsets: &[u32], left: u32, prefix: u32) -> Part
+    requires rises { Rises offsets.now }
+    requires short { left ≤ 16 }
+    requires small { (prefix + 1) * 2 ^ left ≤ 2 ^ 16 }
+    ensures { result ≡ settle offsets.now left prefix }
+{
+    let count = 2_u32.pow(left);
+    let first = prefix * count;
+    let listed = below(offsets, first + count).saturating_sub(below(offsets, first));
+    if listed == count as usize {
+        return Part::Every;
+    }
+    if listed == 0 {
+        return Part::Nothing;
+    }
+    Part::Partly(prefix)
+}
+
+/// How many of the ascending numbers are below `bound`, by binary search.
+fn below(numbers: &[u32], bound: u32) -> usize
+    requires { Rises numbers.now }
+    ensures { result ≡ below numbers.now bound }
+{
+    numbers.partition_point(|x| *x < bound)
+}
+
+/// How far each of the ascending numbers is above the first.
+fn offsets(alloc: Global, numbers: &[i64]) -> Result<Vec<u32>, AllocError>
+    requires ascending { IsAscending numbers.now }
+    requires narrow { span numbers.now ≤ 65535 }
+    ensures { IfOk result (λ offsets. offsets.items ≡ map (distance (least numbers.now)) numbers.now) }
+{
+    let mut offsets = Vec::new(alloc);
+    for x in numbers {
+        offsets.push(distance(numbers[0], *x))?;
+    }
+    Ok(offsets)
+}
+
+/// How far `to` is above `from`.
+fn distance(from: i64, to: i64) -> u32
+    requires up { from ≤ℤ to }
+    requires near { distance from to ≤ 65535 }
+    ensures { result ≡ distance from to }
+{
+    (to - from) as u32
+}
