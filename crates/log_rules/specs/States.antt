@@ -1,5 +1,5 @@
 -- What the lines of a log have made so far: a reading of the lines in whole lists. This project's own.
-use Rattle.std.specs.Prelude.{ℕ, nat_lt, Bool, true, false, List, [], ◌∷◌, ◌++◌, map, length, Option, None, Some, slice_get, filter_map, option_to_list}
+use Rattle.std.specs.Prelude.{ℕ, nat_lt, Bool, true, false, List, [], ◌∷◌, ◌++◌, map, length, Option, None, Some, slice_get, filter_map}
 use Rattle.set_meaning.specs.declared.kinds.Value.{Value}
 use Rattle.set_meaning.specs.declared.kinds.Value.TheVariants as value
 use Rattle.log_text.specs.declared.line.LogValue.{LogValue}
@@ -71,14 +71,19 @@ state_of log = record {
   ends = ends_of log;
 }
 
--- with one more line
+-- the list, and behind it what there is
+abbrev pub with_some : {X : Type 0} → List X → Option X → List X
+with_some xs None = xs
+with_some xs (Some x) = xs ++ x ∷ []
+
+-- the state with one more line
 abbrev pub after : LogState → Line → LogState
 after s line = record {
   begun = true;
-  table = s.table ++ option_to_list (node_in line);
-  boxes = s.boxes ++ option_to_list (box_in line);
-  answers = s.answers ++ option_to_list (answer_in line);
-  ends = s.ends ++ option_to_list (end_in line);
+  table = with_some s.table (node_in line);
+  boxes = with_some s.boxes (box_in line);
+  answers = with_some s.answers (answer_in line);
+  ends = with_some s.ends (end_in line);
 }
 
 -- box number k

@@ -1,4 +1,5 @@
 mod Alike
+mod Filtering
 mod Known
 mod Lists
 mod Trying

@@ -1,7 +1,7 @@
 //! The initial values of a variable that are in its side.
-ghost use Rattle.std.specs.Prelude.{◌≡◌, ◌↔◌, ◌<◌, ◌==◌, ◌||◌, not, true, IfOk, OnOk, Contains, IsSomeAnd, slice_get, length};
+ghost use Rattle.std.specs.Prelude.{◌≡◌, ◌↔◌, ◌<◌, ◌==◌, ◌||◌, ◌∷◌, [], ◌++◌, not, true, false, Some, IfOk, OnOk, Contains, IsSomeAnd, slice_get, length};
 ghost use Rattle.set_meaning.specs.declared.kinds.Value.{Value as AnyValue};
-ghost use Rattle.set_meaning.specs.Kinds.{InKind, initial_values};
+ghost use Rattle.set_meaning.specs.Kinds.{InKind};
 ghost use Rattle.std.specs.List.{list_all};
 ghost use Rattle.log_rules.specs.Tables.{walk};
 ghost use Rattle.log_rules.specs.Boxes.{side_of};
@@ -33,7 +33,7 @@ pub(crate) fn values_within(
     requires known { v.0 < length kinds.now }
     ensures { IfOk result (λ values. (x : AnyValue) → Contains values.items x ↔ IsAllowed kinds.now table.now sides.now v.0 x) }
 {
-    let kind = &kinds[v.0 as usize];
+    let kind = kind_at(kinds, v);
     initial_values_are_in_kind(kind);
     let all = initial_values(alloc, kind)?;
     let values = chosen(alloc, layout, table, sides, v, all)?;
@@ -53,16 +53,44 @@ fn chosen(
     requires initial { (x : AnyValue) → Contains all.items x → IsSomeAnd (slice_get layout.now.kinds v.0) (λ k. InKind k x) }
     ensures { IfOk result (λ values. (x : AnyValue) → Contains values.items x ↔ (Contains all.items x × (side_of layout.now.kinds table.now sides.now v.0 x ≡ true))) }
 {
+    let candidates = all.as_slice();
     let mut values = Vec::new(alloc);
-    for x in all.as_slice() {
-        if is_within(alloc, layout, table, sides, v, x)? {
-            values.push(x.copy(alloc)?)?;
-        }
+    for x in candidates {
+        push_within(alloc, &mut values, layout, table, sides, v, x)?;
     }
     Ok(values)
 }
 
+/// Appends the value, if it is in the variable's side.
+fn push_within(
+    alloc: Global,
+    values: &mut Vec<Value>,
+    layout: &Layout,
+    table: &Table,
+    sides: &[(u64, u64)],
+    v: VarId,
+    x: &Value,
+) -> Result<(), AllocError>
+    requires initial { IsSomeAnd (slice_get layout.now.kinds v.0) (λ k. InKind k x.now) }
+    ensures taken { OnOk result (side_of layout.now.kinds table.now sides.now v.0 x.now ≡ true → values.new.items ≡ values.old.items ++ x.now ∷ []) }
+    ensures left { OnOk result (side_of layout.now.kinds table.now sides.now v.0 x.now ≡ false → values.new.items ≡ values.old.items) }
+{
+    if is_within(alloc, layout, table, sides, v, x)? {
+        let x = x.copy(alloc)?;
+        values.push(x)?;
+    }
+    Ok(())
+}
+
+fn kind_at(kinds: &[Kind], v: VarId) -> &Kind
+    requires { v.0 < length kinds.now }
+    ensures { slice_get kinds.now v.0 ≡ Some result.now }
+{
+    &kinds[v.0 as usize]
+}
+
 /// Whether the value is in the variable's side.
+#[tactic(auto, unfolding(log_rules::specs::Boxes::side_of))]
 fn is_within(
     alloc: Global,
     layout: &Layout,
@@ -75,7 +103,8 @@ fn is_within(
     ensures { IfOk result (λ within. within ≡ side_of layout.now.kinds table.now sides.now v.0 x.now) }
 {
     let word = layout.word_of(alloc, v, x)?;
-    Ok(accept_all(table, sides, v.0, word.as_slice()))
+    let within = accept_all(table, sides, v.0, word.as_slice());
+    Ok(within)
 }
 
 /// Whether each side of the variable accepts the word.

@@ -34,9 +34,16 @@ pub fn possible(
     requires scope { (k : AnyConstraint) → slice_get p.now.constraints c.0 ≡ Some k → All (λ side. StandsIn k side.0) sides.now }
     ensures { IfOk result (λ yes. (k : AnyConstraint) → slice_get p.now.constraints c.0 ≡ Some k → IsTrue yes ↔ SomeSatisfy p.now.kinds table.now sides.now k) }
 {
-    let constraint = &p.constraints.items()[c.0 as usize];
+    let constraint = constraint_at(p.constraints.items(), c);
     let yes = is_possible(alloc, p.kinds.items(), layout, table, constraint, sides)?;
     Ok(yes)
+}
+
+fn constraint_at(constraints: &[Constraint], c: ConId) -> &Constraint
+    requires { c.0 < length constraints.now }
+    ensures { slice_get constraints.now c.0 ≡ Some result.now }
+{
+    &constraints[c.0 as usize]
 }
 
 fn is_possible(
@@ -56,7 +63,8 @@ fn is_possible(
     let variables = scope(alloc, c)?;
     let mut values = first_values(alloc, kinds)?;
     let mut choices: Vec<Choice> = Vec::new(alloc);
-    for v in variables.as_slice() {
+    let listed = variables.as_slice();
+    for v in listed {
         let own = values_within(alloc, kinds, layout, table, sides, *v)?;
         open(values.as_mut_slice(), &mut choices, *v, own)?;
     }
@@ -71,7 +79,8 @@ fn first_values(alloc: Global, kinds: &[Kind]) -> Result<Vec<Value>, AllocError>
 {
     let mut values = Vec::new(alloc);
     for kind in kinds {
-        values.push(first_value(alloc, kind)?)?;
+        let value = first_value(alloc, kind)?;
+        values.push(value)?;
     }
     Ok(values)
 }

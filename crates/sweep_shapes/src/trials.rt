@@ -22,12 +22,17 @@ pub(crate) fn holds_for_some(
     ensures others { AreSameBut choices.now values.old values.new }
 {
     match choices {
-        [] => holds(alloc, c, values),
+        [] => {
+            let found = holds(alloc, c, values)?;
+            Ok(found)
+        }
         [first, others @ ..] => {
-            for x in first.values.items() {
-                let x = x.copy(alloc)?;
-                put(values, first.variable, x);
-                if holds_for_some(alloc, c, others, values)? {
+            let tried = first.values.items();
+            for x in tried {
+                let copy = x.copy(alloc)?;
+                put(values, first.variable, copy);
+                let found = holds_for_some(alloc, c, others, values)?;
+                if found {
                     return Ok(true);
                 }
             }

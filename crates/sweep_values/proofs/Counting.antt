@@ -11,6 +11,9 @@ use Rattle.sweep_values.specs.Domains.{below, IsBelowAll, Rises}
 abbrev pub has : List ℕ → ℕ → Bool
 has xs k = list_any (λ y. y == k) xs
 
+abbrev bit : Bool → ℕ
+bit v = cond v 1 0
+
 -- ---- one bound more
 
 first_part : (x k : ℕ) → cond (nat_lt x (k + 1)) 1 0 ≡ cond (nat_lt x k) 1 0 + cond (x == k) 1 0
@@ -49,19 +52,19 @@ one_more (x ∷ xs) k up =
         let is : x ≡ k = eqb-true x k e in
         let none : has xs k ≡ false = subst (λ n. has xs n ≡ false) is (none_listed x xs up.0) in
         let r : below xs (k + 1) ≡ below xs k + 0 = rest ∙ ap (λ v. below xs k + cond v 1 0) none in
-        let f : cond (nat_lt x (k + 1)) 1 0 ≡ cond (nat_lt x k) 1 0 + 1 = first ∙ ap (λ v. cond (nat_lt x k) 1 0 + cond v 1 0) e in
-        let g : cond ((x == k) || has xs k) 1 0 ≡ 1 = ap (λ v. cond (v || has xs k) 1 0) e in
+        let f : bit (nat_lt x (k + 1)) ≡ bit (nat_lt x k) + 1 = first ∙ ap (λ v. cond (nat_lt x k) 1 0 + cond v 1 0) e in
+        let g : bit ((x == k) || has xs k) ≡ 1 = ap (λ v. cond (v || has xs k) 1 0) e in
         omega (arith, r, f, g)
     by false e rest first =
-        let f : cond (nat_lt x (k + 1)) 1 0 ≡ cond (nat_lt x k) 1 0 + 0 = first ∙ ap (λ v. cond (nat_lt x k) 1 0 + cond v 1 0) e in
-        let g : cond ((x == k) || has xs k) 1 0 ≡ cond (has xs k) 1 0 = ap (λ v. cond (v || has xs k) 1 0) e in
+        let f : bit (nat_lt x (k + 1)) ≡ bit (nat_lt x k) + 0 = first ∙ ap (λ v. cond (nat_lt x k) 1 0 + cond v 1 0) e in
+        let g : bit ((x == k) || has xs k) ≡ bit (has xs k) = ap (λ v. cond (v || has xs k) 1 0) e in
         omega (arith, rest, f, g)
 
 -- ---- many bounds
 
 abbrev hits : List ℕ → ℕ → ℕ → ℕ
 hits xs first zero = 0
-hits xs first (suc count) = cond (has xs first) 1 0 + hits xs (first + 1) count
+hits xs first (suc count) = bit (has xs first) + hits xs (first + 1) count
 
 between : (xs : List ℕ) (first count : ℕ) → Rises xs → below xs (first + count) ≡ below xs first + hits xs first count
 between xs first zero up = ap (below xs) (omega arith) ∙ zero_more (below xs first)
@@ -78,33 +81,31 @@ hits_few : (xs : List ℕ) (first count : ℕ) → hits xs first count ≤ count
 hits_few xs first zero = omega arith
 hits_few xs first (suc count) =
     let rest = hits_few xs (first + 1) count in
-    elim (has xs first) as (λ v. cond v 1 0 + hits xs (first + 1) count ≤ suc count) [ true ↦ omega (arith, rest) | false ↦ omega (arith, rest) ]
+    elim (has xs first) as (λ v. bit v + hits xs (first + 1) count ≤ suc count) [ true ↦ omega (arith, rest) | false ↦ omega (arith, rest) ]
+
+first_of : (xs : List ℕ) (first count : ℕ) (v : Bool) → bit v + hits xs (first + 1) count ≡ suc count → (v ≡ true) × (hits xs (first + 1) count ≡ count)
+first_of xs first count true e = (refl, omega (arith, e))
+first_of xs first count false e = let few = hits_few xs (first + 1) count in absurd (omega (arith, e, few))
+
+none_of : (xs : List ℕ) (first count : ℕ) (v : Bool) → bit v + hits xs (first + 1) count ≡ 0 → (v ≡ false) × (hits xs (first + 1) count ≡ 0)
+none_of xs first count true e = absurd (omega (arith, e))
+none_of xs first count false e = (refl, omega (arith, e))
+
+here_is : (xs : List ℕ) (first : ℕ) → has xs (first + 0) ≡ has xs first
+here_is xs first = let e : first + 0 ≡ first = omega arith in ap (has xs) e
+
+next_is : (xs : List ℕ) (first k : ℕ) → has xs (first + suc k) ≡ has xs (first + 1 + k)
+next_is xs first k = let e : first + suc k ≡ first + 1 + k = omega arith in ap (has xs) e
 
 all_hit : (xs : List ℕ) (first count k : ℕ) → hits xs first count ≡ count → k < count → has xs (first + k) ≡ true
 all_hit xs first zero k all within = absurd (omega (arith, within))
-all_hit xs first (suc count) k all within =
-    let few = hits_few xs (first + 1) count in
-    by (has xs first) refl k within (all_of (has xs first) all few)
-  where
-    all_of : (v : Bool) → cond v 1 0 + hits xs (first + 1) count ≡ suc count → hits xs (first + 1) count ≤ count → (v ≡ true) × (hits xs (first + 1) count ≡ count)
-    all_of true e few = (refl, omega (arith, e))
-    all_of false e few = absurd (omega (arith, e, few))
-
-    by : (v : Bool) → has xs first ≡ v → (k : ℕ) → k < suc count → (has xs first ≡ true) × (hits xs (first + 1) count ≡ count) → has xs (first + k) ≡ true
-    by v e zero within h = ap (has xs) (omega arith) ∙ h.0
-    by v e (suc k) within h = let f : first + suc k ≡ first + 1 + k = omega arith in ap (has xs) f ∙ all_hit xs (first + 1) count k h.1 (omega (arith, within))
+all_hit xs first (suc count) zero all within = here_is xs first ∙ (first_of xs first count (has xs first) all).0
+all_hit xs first (suc count) (suc k) all within = next_is xs first k ∙ all_hit xs (first + 1) count k (first_of xs first count (has xs first) all).1 (omega (arith, within))
 
 none_hit : (xs : List ℕ) (first count k : ℕ) → hits xs first count ≡ 0 → k < count → has xs (first + k) ≡ false
 none_hit xs first zero k all within = absurd (omega (arith, within))
-none_hit xs first (suc count) k all within = by k within (none_of (has xs first) all)
-  where
-    none_of : (v : Bool) → cond v 1 0 + hits xs (first + 1) count ≡ 0 → (v ≡ false) × (hits xs (first + 1) count ≡ 0)
-    none_of true e = absurd (omega (arith, e))
-    none_of false e = (refl, omega (arith, e))
-
-    by : (k : ℕ) → k < suc count → (has xs first ≡ false) × (hits xs (first + 1) count ≡ 0) → has xs (first + k) ≡ false
-    by zero within h = ap (has xs) (omega arith) ∙ h.0
-    by (suc k) within h = let f : first + suc k ≡ first + 1 + k = omega arith in ap (has xs) f ∙ none_hit xs (first + 1) count k h.1 (omega (arith, within))
+none_hit xs first (suc count) zero all within = here_is xs first ∙ (none_of xs first count (has xs first) all).0
+none_hit xs first (suc count) (suc k) all within = next_is xs first k ∙ none_hit xs (first + 1) count k (none_of xs first count (has xs first) all).1 (omega (arith, within))
 
 -- how many lie between, and what follows where all do, or none does
 pub record Counts (xs : List ℕ) (first count n : ℕ) : Type 0 where
@@ -144,10 +145,10 @@ pub below_point : (xs : List ℕ) (k i : ℕ) → i ≤ length xs → IsPartitio
 below_point [] k zero within h = refl
 below_point [] k (suc i) within h = absurd (omega (arith, within))
 below_point (x ∷ xs) k zero within h =
-    let first : cond (nat_lt x k) 1 0 ≡ 0 = ap (λ v. cond v 1 0) (h.1 0 0 (omega arith) (omega arith)) in
+    let first : bit (nat_lt x k) ≡ 0 = ap (λ v. cond v 1 0) (h.1 0 0 (omega arith) (omega arith)) in
     let rest = below_point xs k zero (omega arith) ((λ j d low high. absurd (omega (arith, high))), (λ j d low high. h.1 (suc j) d (omega arith) (omega (arith, high)))) in
     omega (arith, first, rest)
 below_point (x ∷ xs) k (suc i) within h =
-    let first : cond (nat_lt x k) 1 0 ≡ 1 = ap (λ v. cond v 1 0) (h.0 0 0 (omega arith) (omega arith)) in
+    let first : bit (nat_lt x k) ≡ 1 = ap (λ v. cond v 1 0) (h.0 0 0 (omega arith) (omega arith)) in
     let rest = below_point xs k i (omega (arith, within)) ((λ j d low high. h.0 (suc j) d (omega arith) (omega (arith, high))), (λ j d low high. h.1 (suc j) d (omega (arith, low)) (omega (arith, high)))) in
     omega (arith, first, rest)

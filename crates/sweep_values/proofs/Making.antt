@@ -1,8 +1,10 @@
 -- The offsets of an ascending list of integers, and the bounds of what is read.
-use Rattle.std.proofs.Common.{◌≡◌, ℕ, suc, ◌+◌, ◌-◌, ◌*◌, ◌^◌, ◌<◌, ◌≤◌, ◌≤ℤ◌, ◌==◌, nat_lt, Bool, true, false, cond, ℤ, pos, ◌-ℤ◌, List, [], ◌∷◌, ◌++◌, map, length, take, get_or, Contains, refl, sym, ap, ◌∙◌, subst, inl, inr, arith}
+use Rattle.std.proofs.Common.{◌≡◌, ℕ, suc, ◌+◌, ◌-◌, ◌*◌, ◌^◌, ◌<◌, ◌≤◌, ◌≤ℤ◌, ◌<ℤ◌, ◌==◌, nat_lt, Bool, true, false, cond, ℤ, pos, ◌-ℤ◌, List, [], ◌∷◌, ◌++◌, map, length, take, get_or, Contains, refl, sym, ap, ◌∙◌, subst, inl, inr, arith}
 use Rattle.std.specs.Ordering.{int_cmp}
 use Rattle.std.proofs.lemmas.Int.{ints}
-use Rattle.std.proofs.lemmas.Bool.{lt-ltb}
+use Rattle.std.proofs.lemmas.Bool.{lt-ltb, cases_lt}
+use Rattle.std.proofs.Math.Nat.{pow-le-pow_right}
+use Rattle.std.specs.Int.{from_bool}
 use Rattle.std.proofs.lemmas.List.{take_more, take_all}
 use Rattle.std.proofs.lemmas.List.Elements.{Contains-get_or, All-from_recursion, All-contains}
 use Rattle.std.proofs.lemmas.Map.Keys.{sorted_head, sorted_tail}
@@ -67,3 +69,49 @@ by_count_occurs width at count n prefix h = all (n == count)
 
 pub settle_occurs : (offsets : List ℕ) (width at left prefix : ℕ) → (prefix + 1) * 2 ^ (width - at) ≤ 2 ^ 16 → OccursAt width at (settle offsets left prefix)
 settle_occurs offsets width at left prefix h = by_count_occurs width at (2 ^ left) (below offsets (prefix * 2 ^ left + 2 ^ left) - below offsets (prefix * 2 ^ left)) prefix h
+
+-- a word of at most 16 digits
+start_small : (width : ℕ) → width ≤ 16 → 1 * 2 ^ width ≤ 2 ^ 16
+start_small width short = let p = pow-le-pow_right {n = 2} (omega arith) {i = width} {j = 16} short in omega (arith, p)
+
+pub small_at_start : (width : ℕ) (free : Bool) → (free ≡ false → width ≤ 16) → free ≡ false → 1 * 2 ^ width ≤ 65536
+small_at_start width free short is = start_small width (short is)
+
+pub start_occurs : (offsets items : List ℕ) (width : ℕ) (free : Bool) (q : Part) → (free ≡ false → width ≤ 16) → free ≡ false → q ≡ settle items width 0 → OccursAt width 0 q
+start_occurs offsets items width free q short is settled =
+    let e : width - 0 ≡ width = omega arith in
+    let h : (0 + 1) * 2 ^ (width - 0) ≤ 2 ^ 16 = subst (λ k. (0 + 1) * 2 ^ k ≤ 2 ^ 16) (sym e) (start_small width (short is)) in
+    subst (OccursAt width 0) (sym settled) (settle_occurs items width 0 width 0 h)
+
+-- the digits to come are at most 16
+short_left : (prefix left : ℕ) → (prefix + 1) * 2 ^ left ≤ 2 ^ 16 → left ≤ 16
+short_left prefix left h = elim (cases_lt 16 left) [
+  | inl long ↦
+      let p = pow-le-pow_right {n = 2} (omega arith) {i = 17} {j = left} (omega (arith, long)) in
+      let q : 2 ^ left ≤ (prefix + 1) * 2 ^ left = at_least (2 ^ left) in
+      absurd (omega (arith, p, q, h))
+  | inr short ↦ short
+]
+  where
+    at_least : (x : ℕ) → x ≤ (prefix + 1) * x
+    at_least x = omega arith
+
+-- what is asked of a step
+pub record IsReady (width at prefix digit : ℕ) : Type 0 where
+  pub short : width - (at + 1) ≤ 16
+  pub small : (2 * prefix + digit + 1) * 2 ^ (width - (at + 1)) ≤ 65536
+
+from_bool_is : (b : Bool) → from_bool b ≡ cond b 1 0
+from_bool_is true = refl
+from_bool_is false = refl
+
+pub ready : (width at prefix digit : ℕ) (q : Part) (b : Bool) → at < width → q ≡ Partly prefix → digit ≡ from_bool b → OccursAt width at q → IsReady width at prefix digit
+ready width at prefix digit q b within is digit_is occurs =
+    let h : (prefix + 1) * 2 ^ (width - at) ≤ 2 ^ 16 = subst (OccursAt width at) is occurs in
+    let s = step_small width at prefix b within h in
+    let d : digit ≡ cond b 1 0 = digit_is ∙ from_bool_is b in
+    let left = short_left prefix (width - at) h in
+    record { short = omega (arith, left); small = subst (λ k. (2 * prefix + k + 1) * 2 ^ (width - (at + 1)) ≤ 2 ^ 16) (sym d) s }
+
+pub step_occurs : (offsets : List ℕ) (width at prefix digit : ℕ) (q : Part) → IsReady width at prefix digit → q ≡ settle offsets (width - (at + 1)) (2 * prefix + digit) → OccursAt width (at + 1) q
+step_occurs offsets width at prefix digit q is settled = subst (OccursAt width (at + 1)) (sym settled) (settle_occurs offsets width (at + 1) (width - (at + 1)) (2 * prefix + digit) is.small)

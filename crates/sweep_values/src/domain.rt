@@ -1,11 +1,10 @@
 //! The initial values of a variable as a shape.
-ghost use Rattle.std.specs.Prelude.{◌≡◌, ◌↔◌, ◌+◌, ◌*◌, ◌^◌, ◌<◌, ◌≤◌, ◌≤ℤ◌, true, false, Bool, List, map, take, length, IfOk};
+ghost use Rattle.std.specs.Prelude.{◌≡◌, ◌↔◌, ◌+◌, ◌*◌, ◌^◌, ◌<◌, ◌≤◌, true, false, Bool, List, map, length, IfOk};
 ghost use Rattle.set_meaning.specs.declared.kinds.Kind.{Kind as AnyKind};
 ghost use Rattle.set_meaning.specs.declared.kinds.Value.{Value};
 ghost use Rattle.set_meaning.specs.Problems.{IsKind};
-ghost use Rattle.set_meaning.specs.Sets.{IsAscending};
 ghost use Rattle.bit_layout.specs.Limits.{IsNarrow, counted_bits};
-ghost use Rattle.bit_layout.specs.Words.{IsValueOf, distance, least, span, width_of};
+ghost use Rattle.bit_layout.specs.Words.{IsValueOf, distance, least, width_of};
 ghost use Rattle.sweep_rules.specs.Rules.{accepts};
 ghost use Rattle.sweep_values.specs.Parts.{part_true};
 ghost use Rattle.sweep_values.specs.Domains.{OccursAt, Rises, below, domain_rules, is_every, is_free, offsets_of, settle};
@@ -20,7 +19,7 @@ use sweep_rules::Shape;
 /// those whose number is the offset of one of its values from the least.
 #[derive(Drop)]
 pub struct Domain {
-    offsets: Vec<u32>,
+    offsets: Vec<u64>,
     width: u32,
     free: bool,
 }
@@ -82,7 +81,7 @@ impl Shape for Domain {
             Part::Partly(prefix) => settle(
                 self.offsets.as_slice(),
                 self.width - (at as u32 + 1),
-                2 * prefix + u32::from(value),
+                2 * prefix + u64::from(value),
             ),
             Part::Nothing => Part::Nothing,
         }
@@ -98,16 +97,16 @@ impl Shape for Domain {
 }
 
 /// Which of the numbers that begin with these binary digits are listed, where so many digits are to come.
-fn settle(offsets: &[u32], left: u32, prefix: u32) -> Part
+fn settle(offsets: &[u64], left: u32, prefix: u64) -> Part
     requires rises { Rises offsets.now }
     requires short { left ≤ 16 }
     requires small { (prefix + 1) * 2 ^ left ≤ 2 ^ 16 }
     ensures { result ≡ settle offsets.now left prefix }
 {
-    let count = 2_u32.pow(left);
+    let count = 2_u64.pow(left);
     let first = prefix * count;
     let listed = below(offsets, first + count).saturating_sub(below(offsets, first));
-    if listed == count as usize {
+    if listed as u64 == count {
         return Part::Every;
     }
     if listed == 0 {
@@ -117,7 +116,7 @@ fn settle(offsets: &[u32], left: u32, prefix: u32) -> Part
 }
 
 /// How many of the ascending numbers are below `bound`, by binary search.
-fn below(numbers: &[u32], bound: u32) -> usize
+fn below(numbers: &[u64], bound: u64) -> usize
     requires { Rises numbers.now }
     ensures { result ≡ below numbers.now bound }
 {
@@ -125,23 +124,27 @@ fn below(numbers: &[u32], bound: u32) -> usize
 }
 
 /// How far each of the ascending numbers is above the first.
-fn offsets(alloc: Global, numbers: &[i64]) -> Result<Vec<u32>, AllocError>
-    requires ascending { IsAscending numbers.now }
-    requires narrow { span numbers.now ≤ 65535 }
+fn offsets(alloc: Global, numbers: &[i64]) -> Result<Vec<u64>, AllocError>
     ensures { IfOk result (λ offsets. offsets.items ≡ map (distance (least numbers.now)) numbers.now) }
 {
-    let mut offsets = Vec::new(alloc);
-    for x in numbers {
-        offsets.push(distance(numbers[0], *x))?;
-    }
+    let first = least(numbers);
+    let offsets = distances(alloc, first, numbers)?;
     Ok(offsets)
 }
 
-/// How far `to` is above `from`.
-fn distance(from: i64, to: i64) -> u32
-    requires up { from ≤ℤ to }
-    requires near { distance from to ≤ 65535 }
-    ensures { result ≡ distance from to }
+/// How far each of the numbers is from `first`.
+fn distances(alloc: Global, first: i64, numbers: &[i64]) -> Result<Vec<u64>, AllocError>
+    ensures { IfOk result (λ distances. distances.items ≡ map (distance first) numbers.now) }
 {
-    (to - from) as u32
+    numbers.iter().map(|x| x.abs_diff(first)).collect(alloc)
+}
+
+/// The first of the numbers; 0 where there are none.
+fn least(numbers: &[i64]) -> i64
+    ensures { result ≡ least numbers.now }
+{
+    match numbers {
+        [first, ..] => *first,
+        [] => 0,
+    }
 }

@@ -6,7 +6,7 @@ pub enum Part {
     /// All of them.
     Every,
     /// Some of them; the bits read so far are the binary digits of this number.
-    Partly(u32),
+    Partly(u64),
     /// None of them.
     Nothing,
 }

@@ -10,5 +10,5 @@ pub nodes-preserved : goal.nodes-preserved
 nodes-preserved c =
     walk_step c.args.self.now c.args.word.now c.args.n c.nodes.at c.child-at.result c.in-Some.node c.obeys_rules.ensures (sym c.in-Some.ensures) c.child-at.ensures c.nodes.invariant
 
-pub returns : goal.returns
-returns c = walk_ends c.args.self.now c.args.word.now c.args.n c.nodes.at (sym c.in-None.ensures) c.nodes.invariant
+pub returns-in-None : goal.returns-in-None
+returns-in-None c = walk_ends c.args.self.now c.args.word.now c.args.n c.nodes.at (sym c.in-None.ensures) c.nodes.invariant
