@@ -1,5 +1,6 @@
 mod Alike
 mod Filtering
+mod First
 mod Known
 mod Lists
 mod Trying

@@ -131,7 +131,7 @@ settled_more allowed first base choices done v x within new own h = record {
           to = λ o e. settled.to o (e ∙ beside_put base v.0 u.0 x (λ same. new u before (sym same)));
           from = λ o some. settled.from o some ∙ sym (beside_put base v.0 u.0 x (λ same. new u before (sym same)));
         })
-      | inr open ↦ inr open
+      | inr chosen ↦ inr chosen
     ]
     | inr e ↦ let P : VarId → Type 0 = λ w. IsSettled allowed (set base v.0 x) choices w ⊎ IsOpen allowed choices w in subst P e (inl here)
   ];
@@ -164,7 +164,7 @@ opened_more allowed first base choices done v own within new own_is h = record {
   each = λ u there. elim (Contains-push_cases done v u there) [
     | inl before ↦ elim (h.each u before) [
       | inl settled ↦ inl (record { avoided = avoids_push choices c u.0 settled.avoided (λ same. new u before (sym same)); to = settled.to; from = settled.from })
-      | inr open ↦ inr (record { choice = open.choice; among = Contains-append_left choices (c ∷ []) open.choice open.among; of = open.of })
+      | inr chosen ↦ inr (record { choice = chosen.choice; among = Contains-append_left choices (c ∷ []) chosen.choice chosen.among; of = chosen.of })
     ]
     | inr e ↦ let P : VarId → Type 0 = λ w. IsSettled allowed base (choices ++ c ∷ []) w ⊎ IsOpen allowed (choices ++ c ∷ []) w in
         subst P e (inr (record { choice = c; among = Contains-push choices c; of = record { variable = refl; values = own_is } }))
@@ -213,10 +213,10 @@ chosen_is_within allowed first base choices done values h is = record {
   long = is.long ∙ h.long;
   inside = λ u there. elim (h.each u there) [
     | inl settled ↦ settled.to (slice_get values u.0) (is.others u.0 settled.avoided)
-    | inr open ↦
-        let here = chosen_at choices values open.choice open.among is.chosen in
-        subst (λ k. IsSomeAnd (slice_get values k) (allowed u.0)) open.of.variable
-        (some_as (slice_get values open.choice.variable.0) (Contains open.choice.values) (allowed u.0) (λ x. (open.of.values x).0) here)
+    | inr chosen ↦
+        let here = chosen_at choices values chosen.choice chosen.among is.chosen in
+        subst (λ k. IsSomeAnd (slice_get values k) (allowed u.0)) chosen.of.variable
+        (some_as (slice_get values chosen.choice.variable.0) (Contains chosen.choice.values) (allowed u.0) (λ x. (chosen.of.values x).0) here)
   ];
   others = λ k beside. is.others k (h.avoids k beside) ∙ h.base_is k beside;
 }
@@ -232,7 +232,7 @@ within_is_chosen allowed first base choices done values h is = record {
   others = λ k avoids. elim (found_or_beside done k) [
     | inl f ↦ subst (λ j. slice_get values j ≡ slice_get base j) f.2 (elim (h.each f.0 f.1) [
       | inl settled ↦ settled.from (slice_get values f.0.0) (is.inside f.0 f.1)
-      | inr open ↦ absurd (not_avoided choices open.choice open.among (subst (Avoids choices) (sym (open.of.variable ∙ f.2)) avoids))
+      | inr chosen ↦ absurd (not_avoided choices chosen.choice chosen.among (subst (Avoids choices) (sym (chosen.of.variable ∙ f.2)) avoids))
     ])
     | inr beside ↦ is.others k beside ∙ sym (h.base_is k beside)
   ];

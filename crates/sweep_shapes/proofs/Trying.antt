@@ -1,5 +1,5 @@
 -- Values of choices that are tried one after another.
-use Rattle.std.proofs.Common.{◌≡◌, ◌↔◌, ℕ, suc, ◌+◌, ◌<◌, ◌≤◌, Bool, true, false, List, [], ◌∷◌, ◌++◌, length, take, get_or, set, Contains, Option, Some, None, IsTrue, refl, sym, ap, ◌∙◌, subst, inl, inr, arith}
+use Rattle.std.proofs.Common.{◌≡◌, ◌↔◌, ℕ, suc, ◌+◌, ◌-◌, ◌<◌, ◌≤◌, Bool, true, false, List, [], ◌∷◌, ◌++◌, length, take, drop, get_or, set, Contains, Option, Some, None, IsTrue, refl, sym, ap, ◌∙◌, subst, inl, inr, arith}
 use Rattle.std.specs.Prelude.{slice_get, IsSomeAnd}
 use Rattle.std.proofs.lemmas.List.{take_more, take_all}
 use Rattle.std.proofs.lemmas.List.Elements.{Contains-push_cases, Contains-get_or}
@@ -84,40 +84,40 @@ same_after base now tried new first others x same put after =
       others = λ k avoids. moved.others k avoids.1 ∙ beside_put now first.variable.0 k x avoids.0 ∙ same.others k avoids;
     }
 
-pub vain_turn : (base now tried new : List Value) (first : Choice) (others : List Choice) (i : ℕ) (x copy : Value) (c : Constraint) (found : Bool) → first.variable.0 < length base → i < length first.values
-    → x ≡ get_or first.values i x → copy ≡ x → tried ≡ set now first.variable.0 copy → IsTrue found ↔ SomeChosen tried others c → found ≡ false → AreSameBut others tried new
-    → TriedInVain base now first others (take i first.values) c → TriedInVain base new first others (take (i + 1) first.values) c
-vain_turn base now tried new first others i x copy c found within here is copied put answer nothing after before =
-    let e : take (i + 1) first.values ≡ take i first.values ++ x ∷ [] = take_more first.values i x here ∙ ap (λ y. take i first.values ++ y ∷ []) (sym is) in
+pub vain_turn : (base now tried new : List Value) (first : Choice) (others : List Choice) (items : List Value) (i : ℕ) (x copy : Value) (c : Constraint) (found : Bool) → first.variable.0 < length base → i < length items
+    → x ≡ get_or items i x → copy ≡ x → tried ≡ set now first.variable.0 copy → IsTrue found ↔ SomeChosen tried others c → found ≡ false → AreSameBut others tried new
+    → TriedInVain base now first others (take i items) c → TriedInVain base new first others (take (i + 1) items) c
+vain_turn base now tried new first others items i x copy c found within here is copied put answer nothing after before =
+    let e : take (i + 1) items ≡ take i items ++ x ∷ [] = take_more items i x here ∙ ap (λ y. take i items ++ y ∷ []) (sym is) in
     let put_x : tried ≡ set now first.variable.0 x = put ∙ ap (set now first.variable.0) copied in
     let right = try_here base now tried first others x c (IsTrue found) within before.same put_x answer in
     subst (λ done. TriedInVain base new first others done c) (sym e) (record {
       same = same_after base now tried new first others x before.same put_x after;
-      vain = λ y h some. elim (Contains-push_cases (take i first.values) x y h) [
+      vain = λ y h some. elim (Contains-push_cases (take i items) x y h) [
         | inl earlier ↦ before.vain y earlier some
         | inr e ↦ let yes = right.1 (subst (λ z. SomeChosen (set base first.variable.0 z) others c) (sym e) some) in let clash : false ≡ true = sym nothing ∙ yes in absurd (cc)
       ];
     })
 
 -- a value with which others satisfy the constraint
-pub found_here : (base now tried : List Value) (first : Choice) (others : List Choice) (i : ℕ) (x copy : Value) (c : Constraint) → first.variable.0 < length base → Avoids others first.variable.0
-    → i < length first.values → x ≡ get_or first.values i x → copy ≡ x → tried ≡ set now first.variable.0 copy → AreSameBut (first ∷ others) base now → SomeChosen tried others c
+pub found_here : (base now tried : List Value) (first : Choice) (others : List Choice) (items : List Value) (i : ℕ) (x copy : Value) (c : Constraint) → first.variable.0 < length base → Avoids others first.variable.0
+    → items ≡ first.values → i < length items → x ≡ get_or items i x → copy ≡ x → tried ≡ set now first.variable.0 copy → AreSameBut (first ∷ others) base now → SomeChosen tried others c
     → SomeChosen base (first ∷ others) c
-found_here base now tried first others i x copy c within apart here is copied put same some =
+found_here base now tried first others items i x copy c within apart listed here is copied put same some =
     let put_x : tried ≡ set now first.variable.0 x = put ∙ ap (set now first.variable.0) copied in
     let h = (try_here base now tried first others x c (SomeChosen tried others c) within same put_x (λ p. p, λ p. p)).0 some in
-    let there : Contains first.values x = subst (Contains first.values) (sym is) (Contains-get_or first.values i x here) in
+    let there : Contains first.values x = subst (λ ys. Contains ys x) listed (subst (Contains items) (sym is) (Contains-get_or items i x here)) in
     record { values = h.values; is_chosen = with_first first others base h.values x within apart there h.is_chosen; holds = h.holds }
 
 -- all were tried in vain
-pub none_found : (base now : List Value) (first : Choice) (others : List Choice) (i : ℕ) (c : Constraint) → first.variable.0 < length base → length first.values ≤ i
-    → TriedInVain base now first others (take i first.values) c → SomeChosen base (first ∷ others) c → ⊥
-none_found base now first others i c within all tried some = by (slice_get some.values first.variable.0) refl some.is_chosen.chosen.0
+pub none_found : (base now : List Value) (first : Choice) (others : List Choice) (items : List Value) (i : ℕ) (c : Constraint) → first.variable.0 < length base → items ≡ first.values → length items ≤ i
+    → TriedInVain base now first others (take i items) c → SomeChosen base (first ∷ others) c → ⊥
+none_found base now first others items i c within listed all tried some = by (slice_get some.values first.variable.0) refl some.is_chosen.chosen.0
   where
     by : (o : Option Value) → slice_get some.values first.variable.0 ≡ o → IsSomeAnd o (Contains first.values) → ⊥
     by None e h = absurd h
     by (Some x) e h =
-        let whole = subst (λ done. TriedInVain base now first others done c) (take_all i first.values all) tried in
+        let whole = subst (λ done. TriedInVain base now first others done c) listed (subst (λ done. TriedInVain base now first others done c) (take_all i items all) tried) in
         whole.vain x h (record { values = some.values; is_chosen = without_first first others base some.values x within e some.is_chosen; holds = some.holds })
 
 -- ---- no choice
@@ -138,3 +138,41 @@ nothing_chosen base c =
 
 pub same_itself : (choices : List Choice) (values : List Value) → AreSameBut choices values values
 same_itself choices values = record { long = refl; others = λ k avoids. refl }
+
+-- no choices
+pub empty_tried : (base : List Value) (choices : List Choice) (c : Constraint) (P : Type 0) → length choices ≡ 0 → P ↔ Holds c base → P ↔ SomeChosen base choices c
+empty_tried base [] c P none h = let n = nothing_chosen base c in (λ p. n.0 (h.0 p), λ s. h.1 (n.1 s))
+empty_tried base (d ∷ choices) c P none h = absurd (omega (arith, none))
+
+-- the choices as their first and the others
+pub cut : (choices : List Choice) (first : Choice) → 1 ≤ length choices → first ≡ get_or choices 0 first → choices ≡ first ∷ take (length choices - 1) (drop 1 choices)
+cut [] first some is = absurd (omega (arith, some))
+cut (d ∷ choices) first some is =
+    let e : suc (length choices) - 1 ≡ length choices = omega arith in
+    let rest : take (suc (length choices) - 1) choices ≡ choices = ap (λ k. take k choices) e ∙ take_all (length choices) choices (omega arith) in
+    λ i. sym is i ∷ sym rest i
+
+-- what is known of the first choice and the others
+pub record IsCut (base : List Value) (choices : List Choice) (first : Choice) (others : List Choice) : Type 0 where
+  pub whole : choices ≡ first ∷ others
+  pub within : first.variable.0 < length base
+  pub avoids : Avoids others first.variable.0
+
+pub cut_known : (base : List Value) (choices : List Choice) (first : Choice) → 1 ≤ length choices → first ≡ get_or choices 0 first → AreBelow (length base) choices → AreApart choices
+    → IsCut base choices first (take (length choices - 1) (drop 1 choices))
+cut_known base choices first some is below apart =
+    let e = cut choices first some is in
+    record { whole = e; within = (subst (AreBelow (length base)) e below).0; avoids = (subst AreApart e apart).0 }
+
+-- what is tried in vain for the first and the others is so for all
+pub none_of_all : (base now : List Value) (choices : List Choice) (first : Choice) (others : List Choice) (items : List Value) (i : ℕ) (c : Constraint) → IsCut base choices first others → items ≡ first.values
+    → length items ≤ i → TriedInVain base now first others (take i items) c → IsTrue false ↔ SomeChosen base choices c
+none_of_all base now choices first others items i c is listed all tried =
+    (λ yes. let clash : false ≡ true = yes in absurd (cc),
+    λ some. absurd (none_found base now first others items i c is.within listed all tried (subst (λ cs. SomeChosen base cs c) is.whole some)))
+
+pub found_of_all : (base now tried : List Value) (choices : List Choice) (first : Choice) (others : List Choice) (items : List Value) (i : ℕ) (x copy : Value) (c : Constraint) → IsCut base choices first others
+    → items ≡ first.values → i < length items → x ≡ get_or items i x → copy ≡ x → tried ≡ set now first.variable.0 copy → AreSameBut (first ∷ others) base now → SomeChosen tried others c
+    → IsTrue true ↔ SomeChosen base choices c
+found_of_all base now tried choices first others items i x copy c is listed here at copied put same some =
+    (λ yes. subst (λ cs. SomeChosen base cs c) (sym is.whole) (found_here base now tried first others items i x copy c is.within is.avoids listed here at copied put same some), λ s. refl)

@@ -9,7 +9,8 @@ ghost use Rattle.sweep_shapes.specs.Trials.{IsAllowed};
 
 use bit_layout::Layout;
 use listed::Listed;
-use set_meaning::{Kind, Value, VarId, initial_values, initial_values_are_in_kind};
+use set_meaning::kinds::initial_values_are_in_kind;
+use set_meaning::{Kind, Value, VarId, initial_values};
 use std::alloc::{AllocError, Global};
 use sweep_table::Table;
 

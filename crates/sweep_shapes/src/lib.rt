@@ -3,8 +3,8 @@
 //! `possible` is what the checker of a log asks of an axiom. What it answers is a word of `log_rules`.
 #![tactic(auto)]
 
+mod axioms;
 mod choices;
-mod possible;
 mod trials;
 
-pub use possible::possible;
+pub use axioms::possible;

@@ -10,8 +10,8 @@ use Rattle.std.proofs.lemmas.List.Elements.{Contains-get_or, All-from_recursion,
 use Rattle.std.proofs.lemmas.Map.Keys.{sorted_head, sorted_tail}
 use Rattle.std.specs.declared.cmp.Ordering.TheVariants.{Less}
 use Rattle.set_meaning.specs.Sets.{IsAscending}
-use Rattle.bit_layout.specs.Words.{distance, least, span}
-use Rattle.bit_layout.proofs.Numbers.{double}
+use Rattle.bit_layout.specs.Words.{bit_width, distance, least, span}
+use Rattle.bit_layout.proofs.Numbers.{double, narrow_width}
 use Rattle.bit_layout.proofs.Elements.{distance_up, least_is_least, offset_within}
 use Rattle.bit_layout.proofs.Rising.{in_head, in_tail}
 use Rattle.sweep_values.specs.declared.part.Part.{Part}
@@ -115,3 +115,7 @@ ready width at prefix digit q b within is digit_is occurs =
 
 pub step_occurs : (offsets : List ℕ) (width at prefix digit : ℕ) (q : Part) → IsReady width at prefix digit → q ≡ settle offsets (width - (at + 1)) (2 * prefix + digit) → OccursAt width (at + 1) q
 step_occurs offsets width at prefix digit q is settled = subst (OccursAt width (at + 1)) (sym settled) (settle_occurs offsets width (at + 1) (width - (at + 1)) (2 * prefix + digit) is.small)
+
+pub int_valid : (numbers : List ℤ) (items : List ℕ) (width : ℕ) → items ≡ map (distance (least numbers)) numbers → IsAscending numbers → span numbers ≤ 65535 → width ≡ bit_width (span numbers)
+    → Rises items × (false ≡ false → width ≤ 16)
+int_valid numbers items width made up narrow is = (subst Rises (sym made) (offsets_rise numbers up), λ _. let n = narrow_width (span numbers) narrow in omega (arith, n, is))

@@ -3,8 +3,9 @@ ghost use Rattle.std.specs.Prelude.{◌≡◌, ◌↔◌, ◌+◌, ◌*◌, ◌^
 ghost use Rattle.set_meaning.specs.declared.kinds.Kind.{Kind as AnyKind};
 ghost use Rattle.set_meaning.specs.declared.kinds.Value.{Value};
 ghost use Rattle.set_meaning.specs.Problems.{IsKind};
+ghost use Rattle.set_meaning.specs.Sets.{IsAscending};
 ghost use Rattle.bit_layout.specs.Limits.{IsNarrow, counted_bits};
-ghost use Rattle.bit_layout.specs.Words.{IsValueOf, distance, least, width_of};
+ghost use Rattle.bit_layout.specs.Words.{IsValueOf, bit_width, distance, least, span, width_of};
 ghost use Rattle.sweep_rules.specs.Rules.{accepts};
 ghost use Rattle.sweep_values.specs.Parts.{part_true};
 ghost use Rattle.sweep_values.specs.Domains.{OccursAt, Rises, below, domain_rules, is_every, is_free, offsets_of, settle};
@@ -36,17 +37,50 @@ impl Domain {
         ensures free { IfOk result (λ s. s.free ≡ is_free kind.now) }
         ensures valid { IfOk result (λ s. Rises s.offsets.items × (s.free ≡ false → s.width ≤ 16)) }
     {
-        let offsets = match kind {
-            Kind::Bool => Vec::new(alloc),
-            Kind::Int(numbers) => offsets(alloc, numbers.elements())?,
-            Kind::Set(_) => Vec::new(alloc),
-        };
-        Ok(Domain {
-            offsets,
-            width: width(kind),
-            free: !matches!(kind, Kind::Int(_)),
-        })
+        match kind {
+            Kind::Bool => Ok(Domain {
+                offsets: Vec::new(alloc),
+                width: 1,
+                free: true,
+            }),
+            Kind::Int(numbers) => {
+                let domain = integers(alloc, numbers.elements(), width(kind))?;
+                Ok(domain)
+            }
+            Kind::Set(_) => Ok(Domain {
+                offsets: Vec::new(alloc),
+                width: width(kind),
+                free: true,
+            }),
+        }
     }
+}
+
+impl Domain {
+    /// How many bits a word has. Takes no memory, and constant time.
+    pub fn width(&self) -> u32
+        ensures { result ≡ self.now.width }
+    {
+        self.width
+    }
+}
+
+/// The shape of the words of an integer variable's values.
+fn integers(alloc: Global, numbers: &[i64], width: u32) -> Result<Domain, AllocError>
+    requires ascending { IsAscending numbers.now }
+    requires narrow { span numbers.now ≤ 65535 }
+    requires width { width ≡ bit_width (span numbers.now) }
+    ensures offsets { IfOk result (λ s. s.offsets.items ≡ map (distance (least numbers.now)) numbers.now) }
+    ensures width { IfOk result (λ s. s.width ≡ width) }
+    ensures free { IfOk result (λ s. s.free ≡ false) }
+    ensures valid { IfOk result (λ s. Rises s.offsets.items × (s.free ≡ false → s.width ≤ 16)) }
+{
+    let offsets = offsets(alloc, numbers)?;
+    Ok(Domain {
+        offsets,
+        width,
+        free: false,
+    })
 }
 
 /// Does nothing. Its contract is the law that the shape of a kind accepts just the words of the kind's initial values.

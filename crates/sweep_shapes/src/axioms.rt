@@ -4,6 +4,7 @@ ghost use Rattle.set_meaning.specs.declared.problems.Constraint.{Constraint as A
 ghost use Rattle.set_meaning.specs.Kinds.{InKind, IsAssignment};
 ghost use Rattle.set_meaning.specs.Problems.{IsKind, IsProblem};
 ghost use Rattle.set_meaning.specs.Rows.{FitsRow};
+ghost use Rattle.bit_layout.specs.Words.{least};
 ghost use Rattle.log_rules.specs.Boxes.{SomeSatisfy};
 ghost use Rattle.log_rules.specs.Rules.{StandsIn};
 
@@ -92,7 +93,20 @@ fn first_value(alloc: Global, kind: &Kind) -> Result<Value, AllocError>
 {
     match kind {
         Kind::Bool => Ok(Value::Bool(false)),
-        Kind::Int(numbers) => Ok(Value::Int(numbers.elements()[0])),
-        Kind::Set(_) => Ok(Value::Set(SetValue::from_list(alloc, &[])?)),
+        Kind::Int(numbers) => Ok(Value::Int(least(numbers.elements()))),
+        Kind::Set(_) => {
+            let set = SetValue::from_list(alloc, [].as_slice())?;
+            Ok(Value::Set(set))
+        }
+    }
+}
+
+/// The first of the numbers; 0 where there are none.
+fn least(numbers: &[i64]) -> i64
+    ensures { result ≡ least numbers.now }
+{
+    match numbers {
+        [first, ..] => *first,
+        [] => 0,
     }
 }
