@@ -5,7 +5,7 @@ ghost use Rattle.set_meaning.specs.Kinds.{InKind, IsAssignment};
 ghost use Rattle.set_meaning.specs.Problems.{IsKind, IsProblem};
 ghost use Rattle.set_meaning.specs.Rows.{FitsRow};
 ghost use Rattle.bit_layout.specs.Words.{least};
-ghost use Rattle.log_rules.specs.Boxes.{SomeSatisfy};
+ghost use Rattle.log_rules.specs.Boxes.{AreSides, SomeSatisfy};
 ghost use Rattle.log_rules.specs.Rules.{StandsIn};
 
 use crate::choices::{Choice, values_within};
@@ -32,6 +32,7 @@ pub fn possible(
     requires problem { IsProblem p.now }
     requires layout { layout.now.kinds ≡ p.now.kinds }
     requires there { c.0 < length p.now.constraints }
+    requires sides { AreSides p.now.kinds table.now sides.now }
     requires scope { (k : AnyConstraint) → slice_get p.now.constraints c.0 ≡ Some k → All (λ side. StandsIn k side.0) sides.now }
     ensures { IfOk result (λ yes. (k : AnyConstraint) → slice_get p.now.constraints c.0 ≡ Some k → IsTrue yes ↔ SomeSatisfy p.now.kinds table.now sides.now k) }
 {

@@ -1,0 +1,4 @@
+mod Bits
+mod Meeting
+pub mod Own
+mod PlaceLists
