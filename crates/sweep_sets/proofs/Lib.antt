@@ -1,0 +1,3 @@
+mod Truth
+mod SetOrders
+mod Deciding
