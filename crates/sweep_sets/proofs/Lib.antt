@@ -1,3 +1,7 @@
 mod Truth
 mod SetOrders
 mod Deciding
+mod ReadElements
+mod Numbers
+mod Grouping
+mod GivenSets

@@ -1,6 +1,6 @@
 -- Truth values.
 use Rattle.std.proofs.Common.{◌≡◌, ◌⊎◌, Bool, true, false, not, ◌||◌, ◌&&◌, refl, sym, ap, ◌∙◌, inl, inr}
-use Rattle.std.specs.Prelude.{◌↔◌}
+use Rattle.std.specs.Prelude.{◌↔◌, IsTrue}
 use Rattle.std.proofs.Math.Bool.{beq}
 
 pub not_true : (b : Bool) → (b ≡ true → ⊥) → b ≡ false
@@ -58,3 +58,7 @@ differ_is false false = refl
 pub as_wanted : (answer : Bool) (P : Type 0) → (answer ≡ true) ↔ P → ((beq answer true ≡ true) ↔ P) × ((beq answer false ≡ true) ↔ (P → ⊥))
 as_wanted true P is = ((λ h. is.0 refl, λ h. refl), (λ h. absurd (let e : false ≡ true = h in cc), λ h. absurd (h (is.0 refl))))
 as_wanted false P is = ((λ h. is.0 h, λ p. is.1 p), (λ h p. let e : false ≡ true = is.1 p in cc, λ h. refl))
+
+pub not_is_false : (b : Bool) → IsTrue (not b) → b ≡ false
+not_is_false true h = let e : false ≡ true = h in absurd (cc)
+not_is_false false h = refl
