@@ -5,3 +5,4 @@ mod ReadElements
 mod Numbers
 mod Grouping
 mod GivenSets
+mod Exact
