@@ -91,6 +91,17 @@ variable_kind kinds y h =
       | Some k ↦ λ e h. let f : Some (sort_of_kind k) ≡ Some IntegerSet = h in let g : sort_of_kind k ≡ IntegerSet = cc in let r = set_kind_of k g in (r.0, e ∙ ap Some r.1)
     ] refl h
 
+-- the set of a term
+pub term_there : (kinds : List Kind) (values : List Value) (t : Term) → IsAssignment kinds values → HasSort kinds IntegerSet t → (s : List ℤ) × (set_of_term values t ≡ Some s)
+term_there kinds values (Const (value.Bool b)) assigned sort = absurd sort
+term_there kinds values (Const (value.Int n)) assigned sort = absurd sort
+term_there kinds values (Const (value.Set s)) assigned sort = (s, refl)
+term_there kinds values (Var y) assigned sort =
+    let u = variable_kind kinds y sort in
+    let v = value_there kinds values y.0 (kind.Set u.0) assigned u.1 in
+    let s = set_in_kind u.0 v.0 v.2 in
+    (s.0, ap (option_and_then set_in) v.1 ∙ ap set_in s.1)
+
 -- the set of a term, and that its operand has it
 record HasSet (values : List Value) (ps : List Place) (o : Operand) (t : Term) : Type 0 where
   pub set : List ℤ

@@ -6,3 +6,4 @@ mod Numbers
 mod Grouping
 mod GivenSets
 mod Exact
+mod ExactRelations

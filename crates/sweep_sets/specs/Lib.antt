@@ -4,3 +4,4 @@ pub mod SeenEquality
 pub mod Operands
 pub mod Tables
 pub mod Shapes
+pub mod Relations

@@ -12,11 +12,13 @@ mod making;
 mod marks;
 mod operands;
 mod reading;
+mod relations;
 mod rules;
 mod shapes;
 mod tables;
 
 pub use marks::Marks;
 pub use reading::{Entry, Seen};
+pub use relations::is_between_sets;
 pub use rules::{Progress, Rule};
 pub use shapes::SetShape;
