@@ -2,7 +2,7 @@
 use Rattle.std.proofs.Common.{◌≡◌, ◌↔◌, ℕ, ◌<◌, Bool, true, false, ℤ, List, [], ◌∷◌, length, get_or, map, Option, Some, None, refl, sym, ap, ◌∙◌, subst, inl, inr, arith, Contains}
 use Rattle.std.specs.Prelude.{slice_get, option_and_then, option_map, IsSome, IsSomeAnd}
 use Rattle.std.specs.Option.{option_map_or}
-use Rattle.std.specs.List.{All, AllZip}
+use Rattle.std.specs.List.{All}
 use Rattle.std.specs.List.Sorted.{IsStrictlySortedBy}
 use Rattle.std.proofs.Math.Bool.{beq}
 use Rattle.std.proofs.lemmas.List.{length-map}
@@ -28,16 +28,14 @@ use Rattle.bit_layout.proofs.Listing.{all_zip_long, all_zip_at}
 use Rattle.bit_layout.proofs.Rising.{nothing_in_empty, in_cons, in_head, in_tail}
 use Rattle.sweep_rules.specs.Rules.{accepts}
 use Rattle.sweep_rules.specs.SetPlaces.{set_at, set_bit, AreSetPlaces}
-use Rattle.sweep_sets.specs.declared.marks.Marks.{Marks}
 use Rattle.sweep_sets.specs.declared.rules.Rule.{Rule}
 use Rattle.sweep_sets.specs.declared.rules.Rule.TheVariants.{Subset}
-use Rattle.sweep_sets.specs.declared.reading.Entry.{Entry}
 use Rattle.sweep_sets.specs.declared.operands.Operand.{Operand}
 use Rattle.sweep_sets.specs.declared.operands.Operands.{Operands}
 use Rattle.sweep_sets.specs.declared.shapes.SetShape.{SetShape}
 use Rattle.sweep_sets.specs.Rules.{marks_in, Relates, decided}
-use Rattle.sweep_sets.specs.Reading.{AreGrouped, elements_of, by_elements}
-use Rattle.sweep_sets.specs.Operands.{IsOperand, elements_of_term, constant_marks}
+use Rattle.sweep_sets.specs.Reading.{AreGrouped, elements_of}
+use Rattle.sweep_sets.specs.Operands.{IsOperand, constant_marks}
 use Rattle.sweep_sets.specs.Tables.{entry_of, entries_of, IsMade}
 use Rattle.sweep_sets.specs.Shapes.{rules_of, HasTruth, RelatesTwo, RelatesThree, HasMember, IsSetAmong, IsExact}
 use Rattle.sweep_sets.proofs.Truth.{as_wanted}

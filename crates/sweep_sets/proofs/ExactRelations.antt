@@ -1,30 +1,27 @@
 -- Each relation between sets, and the shape of its rule.
-use Rattle.std.proofs.Common.{◌≡◌, ◌↔◌, ◌<◌, ◌≤◌, arith, length, get_or, Bool, true, false, not, ℤ, List, [], ◌∷◌, map, Option, Some, None, refl, sym, ap, ◌∙◌, subst, inl, inr, Contains}
-use Rattle.std.specs.Prelude.{filter_map, flat_map}
+use Rattle.std.proofs.Common.{◌≡◌, ◌↔◌, ◌<◌, ◌≤◌, arith, length, get_or, Bool, true, false, not, ℤ, List, [], ◌∷◌, map, Option, Some, refl, sym, ap, ◌∙◌, subst, inl, inr, Contains}
+use Rattle.std.specs.Prelude.{filter_map}
 use Rattle.std.specs.List.{All, AllZip}
 use Rattle.std.proofs.Math.Bool.{beq}
 use Rattle.std.proofs.lemmas.List.Elements.{All-from_recursion}
 use Rattle.set_meaning.specs.declared.kinds.Kind.{Kind}
 use Rattle.set_meaning.specs.declared.kinds.Value.{Value}
-use Rattle.set_meaning.specs.declared.kinds.Value.TheVariants as value
 use Rattle.set_meaning.specs.declared.problems.VarId.{VarId}
 use Rattle.set_meaning.specs.declared.problems.Term.{Term}
 use Rattle.set_meaning.specs.declared.problems.Term.TheVariants.{Const, Var}
 use Rattle.set_meaning.specs.declared.problems.Arg.{Arg}
-use Rattle.set_meaning.specs.declared.problems.Arg.TheVariants.{One, Many}
+use Rattle.set_meaning.specs.declared.problems.Arg.TheVariants.{One}
 use Rattle.set_meaning.specs.declared.problems.Relation.{Relation}
 use Rattle.set_meaning.specs.declared.problems.Relation.TheVariants.{SetEq, SetNe, SetLt, SetLe, SetSubset, SetSuperset, SetUnion, SetIntersect, SetDiff, SetSymdiff}
 use Rattle.set_meaning.specs.declared.rows.Sort.TheVariants.{IntegerSet}
 use Rattle.set_meaning.specs.declared.rows.Shape.TheVariants.{OneOf}
-use Rattle.set_meaning.specs.Kinds.{IsAssignment}
 use Rattle.set_meaning.specs.Rows.{HasSort, HasShape, row_of, shapes_of}
 use Rattle.set_meaning.specs.Arguments.{set_of_term, OfTwo}
-use Rattle.set_meaning.specs.Relations.{HoldsOf, terms_of, variable_of}
+use Rattle.set_meaning.specs.Relations.{HoldsOf, variable_of}
 use Rattle.bit_layout.specs.declared.places.Place.{Place}
 use Rattle.bit_layout.proofs.Rising.{nothing_in_empty, in_cons, in_head, in_tail}
 use Rattle.sweep_rules.specs.Rules.{accepts}
-use Rattle.sweep_rules.specs.SetPlaces.{set_bit, AreSetPlaces}
-use Rattle.sweep_sets.specs.declared.rules.Rule.{Rule}
+use Rattle.sweep_rules.specs.SetPlaces.{set_bit}
 use Rattle.sweep_sets.specs.declared.rules.Rule.TheVariants.{Equal}
 use Rattle.sweep_sets.specs.declared.shapes.SetShape.{SetShape}
 use Rattle.sweep_sets.specs.Shapes.{rules_of, HasTruth, RelatesTwo, RelatesThree, IsSetAmong, IsExact}

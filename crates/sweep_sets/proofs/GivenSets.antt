@@ -1,6 +1,6 @@
 -- The sets that an assignment gives, by the bits of places and the constants.
-use Rattle.std.proofs.Common.{◌≡◌, ◌⊎◌, ℕ, suc, ◌+◌, ◌<◌, eqb, Bool, true, false, ◌||◌, ◌&&◌, ℤ, List, [], ◌∷◌, ◌++◌, length, get_or, map, Option, Some, None, refl, sym, ap, ◌∙◌, subst, inl, inr, arith, Contains}
-use Rattle.std.specs.Prelude.{slice_get, filter_map}
+use Rattle.std.proofs.Common.{◌≡◌, ◌⊎◌, ℕ, suc, ◌+◌, ◌<◌, eqb, Bool, true, false, ◌||◌, ◌&&◌, ℤ, List, [], ◌∷◌, ◌++◌, length, get_or, map, Some, None, refl, sym, ap, ◌∙◌, subst, inl, inr, arith, Contains}
+use Rattle.std.specs.Prelude.{filter_map}
 use Rattle.std.specs.Option.{option_map_or}
 use Rattle.std.proofs.lemmas.Bool.{and_parts, eqb-true, eq-eqb}
 use Rattle.std.proofs.lemmas.List.Elements.{Contains-append_left, Contains-append_right}
@@ -10,7 +10,7 @@ use Rattle.set_meaning.specs.declared.problems.VarId.{VarId}
 use Rattle.set_meaning.specs.Sets.{Has, IsAscending, IsSetOf}
 use Rattle.bit_layout.specs.declared.places.Place.{Place}
 use Rattle.bit_layout.specs.Words.{lists}
-use Rattle.bit_layout.proofs.Elements.{lists_true, listed_is_in}
+use Rattle.bit_layout.proofs.Elements.{listed_is_in}
 use Rattle.bit_layout.proofs.Rising.{nothing_in_empty, in_cons, in_head, in_tail}
 use Rattle.sweep_rules.specs.SetPlaces.{set_bit}
 use Rattle.sweep_sets.specs.declared.marks.Marks.{Marks}
@@ -19,7 +19,7 @@ use Rattle.sweep_sets.specs.declared.operands.Operands.{Operands}
 use Rattle.sweep_sets.specs.Rules.{unmarked, joined, when, marks_in}
 use Rattle.sweep_sets.specs.Reading.{marked, elements_from, elements_of}
 use Rattle.sweep_sets.specs.Operands.{is_variable, constant_marks, variable_marks}
-use Rattle.sweep_sets.specs.Tables.{all_elements, number_of, number_at, entry_of, entries_of}
+use Rattle.sweep_sets.specs.Tables.{all_elements, number_of, number_at, entries_of}
 use Rattle.sweep_sets.proofs.Truth.{not_true, same_truth, or_cases, or_right}
 use Rattle.sweep_sets.proofs.Numbers.{number_stands, number_is}
 use Rattle.sweep_sets.proofs.Grouping.{IsListed, number_is_at, in_places}

@@ -1,5 +1,5 @@
 -- The numbers of elements in an ascending list.
-use Rattle.std.proofs.Common.{◌≡◌, ℕ, ◌<◌, Bool, true, false, ℤ, List, length, get_or, refl, sym, ap, ◌∙◌, subst, arith}
+use Rattle.std.proofs.Common.{◌≡◌, ℕ, ◌<◌, ℤ, List, length, get_or, sym, ap, ◌∙◌, subst, arith}
 use Rattle.std.specs.Ordering.{int_cmp, int_eq}
 use Rattle.std.specs.declared.cmp.Ordering.TheVariants.{Less, Equal}
 use Rattle.std.specs.Cmp.{int_ranked, signed_Decides, int_cmp_total, tied_itself}
@@ -8,7 +8,6 @@ use Rattle.std.proofs.lemmas.Map.Keys.{Less-from_sorted}
 use Rattle.set_meaning.specs.Sets.{Has, IsAscending}
 use Rattle.sweep_sets.specs.Tables.{number_of}
 use Rattle.sweep_sets.proofs.Truth.{not_true}
-
 
 pub number_is : (elements : List ℤ) (x : ℤ) (i : ℕ) → IsAscending elements → i < length elements → get_or elements i x ≡ x → number_of elements x ≡ i
 number_is elements x i up within at =

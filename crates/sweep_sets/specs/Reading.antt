@@ -1,6 +1,6 @@
 -- How the bits of elements are read one by one: each bit has an entry, which says into which sets it puts its element where it is true,
 -- and the number of that element; the bits of one element follow each other. This project's own.
-use Rattle.std.specs.Prelude.{◌≡◌, ℕ, ◌+◌, ◌-◌, ◌<◌, ◌≤◌, ◌==◌, ◌&&◌, Bool, List, [], ◌∷◌, take, drop, length, slice_index_or, ⊤}
+use Rattle.std.specs.Prelude.{ℕ, ◌+◌, ◌-◌, ◌<◌, ◌≤◌, ◌==◌, ◌&&◌, Bool, List, [], ◌∷◌, take, drop, length, slice_index_or, ⊤}
 use Rattle.std.proofs.Math.Bool.{beq}
 use Rattle.sweep_rules.specs.Rules.{Rules}
 use Rattle.sweep_sets.specs.declared.marks.Marks.{Marks}

@@ -1,7 +1,6 @@
 -- Which relations are of sets alone, and by which rule each is read. This project's own.
 use Rattle.std.specs.Prelude.{◌≡◌, ◌↔◌, Bool, true, false, List, map, filter_map, flat_map, Contains, ⊤}
 use Rattle.std.specs.List.{AllZip}
-use Rattle.std.proofs.Math.Bool.{beq}
 use Rattle.set_meaning.specs.declared.kinds.Kind.{Kind}
 use Rattle.set_meaning.specs.declared.kinds.Value.{Value}
 use Rattle.set_meaning.specs.declared.problems.VarId.{VarId}

@@ -1,5 +1,5 @@
 -- What a shape of sets accepts. This project's own.
-use Rattle.std.specs.Prelude.{◌≡◌, ◌↔◌, Bool, true, false, ℤ, List, [], ◌∷◌, map, All, Contains, IsSomeAnd}
+use Rattle.std.specs.Prelude.{◌≡◌, ◌↔◌, Bool, true, false, ℤ, List, [], map, All, Contains, IsSomeAnd}
 use Rattle.set_meaning.specs.declared.kinds.Kind.{Kind}
 use Rattle.set_meaning.specs.declared.kinds.Value.{Value}
 use Rattle.set_meaning.specs.declared.problems.VarId.{VarId}

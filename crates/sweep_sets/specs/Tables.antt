@@ -5,7 +5,6 @@ use Rattle.std.specs.Ordering.{int_eq}
 use Rattle.std.specs.Option.{option_map_or}
 use Rattle.set_meaning.specs.Sets.{IsSetOf}
 use Rattle.bit_layout.specs.declared.places.Place.{Place}
-use Rattle.sweep_sets.specs.declared.marks.Marks.{Marks}
 use Rattle.sweep_sets.specs.declared.rules.Rule.{Rule}
 use Rattle.sweep_sets.specs.declared.reading.Entry.{Entry}
 use Rattle.sweep_sets.specs.declared.operands.Operands.{Operands}

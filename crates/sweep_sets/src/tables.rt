@@ -30,7 +30,10 @@ pub(crate) fn all_elements(
 fn elements_of_places(alloc: Global, places: &[Place]) -> Result<Vec<i64>, AllocError>
     ensures { IfOk result (λ xs. xs.items ≡ filter_map (λ p. p.element) places.now) }
 {
-    places.iter().filter_map(|place| place.element).collect(alloc)
+    places
+        .iter()
+        .filter_map(|place| place.element)
+        .collect(alloc)
 }
 
 /// For each element the sets whose constants have it.

@@ -1,4 +1,4 @@
-use Rattle.std.proofs.Common.{◌≡◌, ◌<◌, ◌≤◌, ◌∷◌, [], Bool, List, length, arith, ap, ◌∙◌, subst}
+use Rattle.std.proofs.Common.{◌≡◌, ◌∷◌, [], Bool, List, arith, ap, subst}
 use Rattle.std.proofs.Math.Bool.{beq}
 use Rattle.std.proofs.lemmas.Result.{IfOk-weaker}
 use Rattle.set_meaning.specs.declared.problems.Arg.{Arg}
@@ -30,7 +30,7 @@ returns-in-len3-clause-exact c =
     let b : Term = c.term_of-in-len3-2.result.now in
     let d : Term = c.term_of-in-len3-3.result.now in
     let are : args ≡ One a ∷ One b ∷ One d ∷ [] = three_are args c.first-item-then-args-lt4.result c.second-item-then-args-lt4.result c.third-item.result a b d (omega (arith, c.in-len3.len_at_least)) (omega (arith, c.in-len3.len_below))
-        c.first-item-then-args-lt4.is c.second-item-then-args-lt4.is c.third-item.is c.term_of-in-len3.ensures c.term_of-in-len3-2.ensures c.term_of-in-len3-3.ensures in
+    c.first-item-then-args-lt4.is c.second-item-then-args-lt4.is c.third-item.is c.term_of-in-len3.ensures c.term_of-in-len3-2.ensures c.term_of-in-len3-3.ensures in
     IfOk-weaker _ _ _
     (λ (s : SetShape) exact. shape_of_three c.args.places.now c.args.relation c.args.truth a b d args s are c.requires.sets
     (subst (λ (rule : Rule). IsExact c.args.places.now s (a ∷ b ∷ d ∷ []) (λ values. HasTruth (beq (rule_truth c.args.relation) c.args.truth) (RelatesThree rule a b d values))) c.rule_of-rule.ensures
