@@ -1,5 +1,5 @@
-//! Three variables, x over 1 and 2, y over 2 and 3, and z over 1 and 3, and the constant of 0, 2 and 5. In the numbers that stand for sets
-//! bit e is true where e is an element.
+//! Three variables, x over 1 and 2, y over 2 and 3, and z over 1 and 3, and the constant of 0, 2 and 5. In the numbers
+//! that stand for sets bit e is true where e is an element.
 ghost use Rattle.std.specs.Prelude.{◌≡◌, ◌<◌, IfOk, IsSome, All, length, true};
 ghost use Rattle.std.specs.List.Sorted.{IsStrictlySortedBy};
 ghost use Rattle.set_meaning.specs.declared.problems.Relation.TheVariants as relations;

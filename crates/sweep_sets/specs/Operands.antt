@@ -32,7 +32,15 @@ is_variable o v = option_map_or (λ own. own.0 == v.0) o.variable false
 
 -- which operands are constants that have x, and which are this variable
 abbrev pub constant_marks : Operands → ℤ → Marks
-constant_marks o x = record { first = lists o.first.constant.now x; second = lists o.second.constant.now x; third = lists o.third.constant.now x }
+constant_marks o x = record {
+  first = lists o.first.constant.now x;
+  second = lists o.second.constant.now x;
+  third = lists o.third.constant.now x;
+}
 
 abbrev pub variable_marks : Operands → VarId → Marks
-variable_marks o v = record { first = is_variable o.first v; second = is_variable o.second v; third = is_variable o.third v }
+variable_marks o v = record {
+  first = is_variable o.first v;
+  second = is_variable o.second v;
+  third = is_variable o.third v;
+}

@@ -1,5 +1,5 @@
--- How the bits of elements are read one by one: each bit has an entry, which says into which sets it puts its element where it is true,
--- and the number of that element; the bits of one element follow each other. This project's own.
+-- How the bits of elements are read one by one: each bit has an entry, which says into which sets it puts its element
+-- where it is true, and the number of that element; the bits of one element follow each other. This project's own.
 use Rattle.std.specs.Prelude.{ℕ, ◌+◌, ◌-◌, ◌<◌, ◌≤◌, ◌==◌, ◌&&◌, Bool, List, [], ◌∷◌, take, drop, length, slice_index_or, ⊤}
 use Rattle.std.proofs.Math.Bool.{beq}
 use Rattle.sweep_rules.specs.Rules.{Rules}
@@ -41,7 +41,8 @@ elements_of constants entries bits = elements_from (marked entries bits) 0 const
 -- once the elements with these constants are closed
 abbrev pub closed : Rule → Seen → List Marks → Seen
 closed rule q [] = q
-closed rule q (c ∷ cs) = record { progress = after rule (close rule q.progress (joined q.marks c)) cs; marks = unmarked }
+closed rule q (c ∷ cs) =
+    record { progress = after rule (close rule q.progress (joined q.marks c)) cs; marks = unmarked }
 
 -- the elements with numbers from `from` to before `to`
 abbrev pub between : List Marks → ℕ → ℕ → List Marks
@@ -50,18 +51,20 @@ between constants from to = take (to - from) (drop from constants)
 abbrev pub no_entry : Entry
 no_entry = record { marks = unmarked; element = 0 }
 
--- after a bit with this entry, before bits with those: what is seen of an element is gathered, and after its last bit it is closed, and
--- with it the elements up to that of the next bit, which have no bits
+-- after a bit with this entry, before bits with those: what is seen of an element is gathered, and after its last bit
+-- it is closed, and with it the elements up to that of the next bit, which have no bits
 abbrev pub step_as : Rule → List Marks → Entry → List Entry → Seen → Bool → Seen
 step_as rule constants e next q b =
-    closed rule record { progress = q.progress; marks = joined q.marks (when b e.marks) } (between constants e.element (first_element (length constants) next))
+    closed rule record { progress = q.progress; marks = joined q.marks (when b e.marks) }
+    (between constants e.element (first_element (length constants) next))
 
 -- before any bit: the elements before the first one that has bits are closed
 abbrev pub started : Rule → List Marks → List Entry → Seen
-started rule constants entries = closed rule record { progress = Same; marks = unmarked } (between constants 0 (first_element (length constants) entries))
+started rule constants entries =
+    closed rule record { progress = Same; marks = unmarked } (between constants 0 (first_element (length constants) entries))
 
--- the automaton that reads the bits and accepts where the rule's verdict is the truth value that is asked; `read-decides` says that it
--- accepts by the elements alone
+-- the automaton that reads the bits and accepts where the rule's verdict is the truth value that is asked, as it steps;
+-- what it accepts is said by `IsExact`
 abbrev pub by_elements : Rule → Bool → List Marks → List Entry → Rules Seen
 by_elements rule truth constants entries = record {
   start = started rule constants entries;

@@ -62,9 +62,9 @@ IsOneTerm (Many ts) = ⊥
 abbrev pub AreAmong : List VarId → List Arg → Type 0
 AreAmong sets args = (v : VarId) → Contains (filter_map variable_of (flat_map terms_of args)) v → Contains sets v
 
--- of the bits of set variables, those of the arguments among them, the shape accepts just those of assignments for which the relation has
--- the truth value
+-- of the bits of set variables, those of the arguments among them, the shape accepts just those of assignments for
+-- which the relation has the truth value
 abbrev pub IsShapeOf : List Place → Relation → Bool → List Arg → SetShape → Type 0
-IsShapeOf places relation truth args shape = (kinds : List Kind) (sets : List VarId) (values : List Value) → AreSetPlaces kinds sets places
-    → AllZip (HasShape kinds) (shapes_of (row_of relation)) args → AreAmong sets args → IsAssignment kinds values
+IsShapeOf places relation truth args shape = (kinds : List Kind) (sets : List VarId) (values : List Value)
+    → AreSetPlaces kinds sets places → AllZip (HasShape kinds) (shapes_of (row_of relation)) args → AreAmong sets args → IsAssignment kinds values
     → (accepts (rules_of shape) (map (set_bit values) places) ≡ true) ↔ HasTruth truth (HoldsOf relation args values)

@@ -1,5 +1,5 @@
--- Relations of up to three sets, read element by element in ascending order by a small state. This project's own; the order of sets is
--- set_meaning's `IsBefore`, lexicographic on ascending lists.
+-- Relations of up to three sets, read element by element in ascending order by a small state. This project's own; the
+-- order of sets is set_meaning's `IsBefore`, lexicographic on ascending lists.
 use Rattle.std.specs.Prelude.{◌≡◌, ◌⊎◌, Bool, true, false, not, ◌&&◌, ◌||◌, if◌then◌else◌, ℤ, List, [], ◌∷◌}
 use Rattle.std.proofs.Math.Bool.{beq}
 use Rattle.bit_layout.specs.Words.{lists}

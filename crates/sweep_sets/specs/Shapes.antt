@@ -1,5 +1,5 @@
 -- What a shape of sets accepts. This project's own.
-use Rattle.std.specs.Prelude.{◌≡◌, ◌↔◌, Bool, true, false, ℤ, List, [], map, All, Contains, IsSomeAnd}
+use Rattle.std.specs.Prelude.{◌≡◌, ◌↔◌, Bool, true, false, ℤ, List, [], ◌∷◌, map, All, Contains, IsSomeAnd}
 use Rattle.set_meaning.specs.declared.kinds.Kind.{Kind}
 use Rattle.set_meaning.specs.declared.kinds.Value.{Value}
 use Rattle.set_meaning.specs.declared.problems.VarId.{VarId}
@@ -33,7 +33,8 @@ abbrev pub RelatesTwo : Rule → Term → Term → List Value → Type 0
 RelatesTwo rule a b values = OfTwo (λ s t. Relates rule s t []) (set_of_term values a) (set_of_term values b)
 
 abbrev pub RelatesThree : Rule → Term → Term → Term → List Value → Type 0
-RelatesThree rule a b c values = OfThree (Relates rule) (set_of_term values a) (set_of_term values b) (set_of_term values c)
+RelatesThree rule a b c values =
+    OfThree (Relates rule) (set_of_term values a) (set_of_term values b) (set_of_term values c)
 
 abbrev pub HasMember : ℤ → Term → List Value → Type 0
 HasMember x a values = IsSomeAnd (set_of_term values a) (λ s. Has s x)
@@ -43,7 +44,22 @@ abbrev pub IsSetAmong : List Kind → List VarId → Term → Type 0
 IsSetAmong kinds sets (Const v) = IsValueOf IntegerSet v
 IsSetAmong kinds sets (Var y) = HasSort kinds IntegerSet (Var y) × Contains sets y
 
--- of the bits of set variables, those of these terms among them, the shape accepts just those of assignments that satisfy R
+-- of the bits of set variables, those of these terms among them, the shape accepts just those of assignments that
+-- satisfy R
 abbrev pub IsExact : List Place → SetShape → List Term → (List Value → Type 0) → Type 0
-IsExact places shape terms R = (kinds : List Kind) (sets : List VarId) (values : List Value) → AreSetPlaces kinds sets places → All (IsSetAmong kinds sets) terms → IsAssignment kinds values
+IsExact places shape terms R = (kinds : List Kind) (sets : List VarId) (values : List Value)
+    → AreSetPlaces kinds sets places → All (IsSetAmong kinds sets) terms → IsAssignment kinds values
     → (accepts (rules_of shape) (map (set_bit values) places) ≡ true) ↔ R values
+
+-- the shape of a rule of two or three terms, or of a member, that is to have this truth value
+abbrev pub IsShapeOfTwo : List Place → Rule → Bool → Term → Term → SetShape → Type 0
+IsShapeOfTwo places rule truth a b shape =
+    IsExact places shape (a ∷ b ∷ []) (λ values. HasTruth truth (RelatesTwo rule a b values))
+
+abbrev pub IsShapeOfThree : List Place → Rule → Bool → Term → Term → Term → SetShape → Type 0
+IsShapeOfThree places rule truth a b c shape =
+    IsExact places shape (a ∷ b ∷ c ∷ []) (λ values. HasTruth truth (RelatesThree rule a b c values))
+
+abbrev pub IsShapeOfMember : List Place → Bool → ℤ → Term → SetShape → Type 0
+IsShapeOfMember places truth x a shape =
+    IsExact places shape (a ∷ []) (λ values. HasTruth truth (HasMember x a values))

@@ -13,7 +13,8 @@ use Rattle.sweep_sets.specs.Operands.{constant_marks, variable_marks}
 
 -- all that may be an element of one of the sets: those of the bits, and those of the constants
 abbrev pub all_elements : Operands → List Place → List ℤ
-all_elements o places = filter_map (λ p. p.element) places ++ (o.first.constant.now ++ (o.second.constant.now ++ o.third.constant.now))
+all_elements o places =
+    filter_map (λ p. p.element) places ++ (o.first.constant.now ++ (o.second.constant.now ++ o.third.constant.now))
 
 -- the number of an element in the list of all
 abbrev pub number_of : List ℤ → ℤ → ℕ

@@ -4,7 +4,7 @@ ghost use Rattle.std.specs.List.Sorted.{IsStrictlySortedBy};
 ghost use Rattle.bit_layout.specs.Order.{place_cmp};
 ghost use Rattle.sweep_sets.specs.Reading.{AreGrouped};
 ghost use Rattle.sweep_sets.specs.Tables.{IsMade};
-ghost use Rattle.sweep_sets.specs.Shapes.{HasTruth, HasMember, RelatesTwo, RelatesThree, IsExact};
+ghost use Rattle.sweep_sets.specs.Shapes.{IsShapeOfTwo, IsShapeOfThree, IsShapeOfMember};
 
 use crate::operands::{Operand, Operands, operand_of};
 use crate::rules::Rule;
@@ -16,9 +16,10 @@ use set_meaning::{SetValue, Term};
 use std::alloc::{AllocError, Global};
 
 impl SetShape {
-    /// The shape of "the two terms are in the relation", or are not where `truth` is false. `places` are those of set variables, these terms'
-    /// among them, in the order in which their bits are read; a third set, if the rule speaks of one, is empty. It takes time and memory for
-    /// the places and the elements of constants, with a logarithm of their number. An `Err` is want of memory.
+    /// The shape of "the two terms are in the relation", or are not where `truth` is false. `places` are those of set
+    /// variables, these terms' among them, in the order in which their bits are read; a third set, if the rule speaks
+    /// of one, is empty. It takes time and memory for the places and the elements of constants, with a logarithm of their
+    /// number. An `Err` is want of memory.
     pub fn of_two(
         alloc: Global,
         places: &[Place],
@@ -31,7 +32,7 @@ impl SetShape {
         requires elements { All (λ p. IsSome p.element) places.now }
         ensures valid { IfOk result (λ s. AreGrouped (length s.constants) s.entries) }
         ensures places { IfOk result (λ s. length s.entries ≡ length places.now) }
-        ensures exact { IfOk result (λ s. IsExact places.now s (first.now ∷ second.now ∷ []) (λ values. HasTruth truth (RelatesTwo rule first.now second.now values))) }
+        ensures exact { IfOk result (IsShapeOfTwo places.now rule truth first.now second.now) }
     {
         let nothing = SetValue::from_list(alloc, &[])?;
         let operands = Operands {
@@ -59,7 +60,7 @@ impl SetShape {
         requires elements { All (λ p. IsSome p.element) places.now }
         ensures valid { IfOk result (λ s. AreGrouped (length s.constants) s.entries) }
         ensures places { IfOk result (λ s. length s.entries ≡ length places.now) }
-        ensures exact { IfOk result (λ s. IsExact places.now s (first.now ∷ second.now ∷ third.now ∷ []) (λ values. HasTruth truth (RelatesThree rule first.now second.now third.now values))) }
+        ensures exact { IfOk result (IsShapeOfThree places.now rule truth first.now second.now third.now) }
     {
         let nothing = SetValue::from_list(alloc, &[])?;
         let operands = Operands {
@@ -82,7 +83,7 @@ impl SetShape {
         requires elements { All (λ p. IsSome p.element) places.now }
         ensures valid { IfOk result (λ s. AreGrouped (length s.constants) s.entries) }
         ensures places { IfOk result (λ s. length s.entries ≡ length places.now) }
-        ensures exact { IfOk result (λ s. IsExact places.now s (set.now ∷ []) (λ values. HasTruth truth (HasMember member set.now values))) }
+        ensures exact { IfOk result (IsShapeOfMember places.now truth member set.now) }
     {
         let nothing = SetValue::from_list(alloc, &[])?;
         let single = SetValue::from_list(alloc, &[member])?;

@@ -6,7 +6,8 @@ ghost use Rattle.sweep_sets.specs.Reading.{between, closed, first_element};
 use crate::marks::Marks;
 use crate::rules::{Progress, Rule};
 
-/// What a bit says: into which sets it puts its element where it is true, and the number of this element in the list of all.
+/// What a bit says: into which sets it puts its element where it is true, and the number of this element in the list of
+/// all.
 #[derive(Clone, Copy, Debug)]
 pub struct Entry {
     pub marks: Marks,

@@ -13,8 +13,9 @@ use bit_layout::Place;
 use set_meaning::{Arg, Relation, Term};
 use std::alloc::{AllocError, Global};
 
-/// Whether the relation is one of two or three sets, which `SetShape::of_relation` reads: equality of sets and its negation, the order of
-/// sets and the order or equality, subset and superset, the union, the intersection, the difference and the symmetric difference.
+/// Whether the relation is one of two or three sets, which `SetShape::of_relation` reads: equality of sets and its
+/// negation, the order of sets and the order or equality, subset and superset, the union, the intersection, the
+/// difference and the symmetric difference.
 pub fn is_between_sets(relation: Relation) -> bool
     ensures { result ≡ is_between_sets relation }
 {

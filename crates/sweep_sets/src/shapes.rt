@@ -10,8 +10,9 @@ use crate::rules::{Progress, Rule};
 use listed::Listed;
 use sweep_rules::Shape;
 
-/// A relation of sets that is to have a truth value, and how the bits of its variables are read. `constants` has an item for each
-/// element, in order: the sets whose constants have it. `entries` has one for each bit, in the order of the bits.
+/// A relation of sets that is to have a truth value, and how the bits of its variables are read. `constants` has an
+/// item for each element, in order: the sets whose constants have it. `entries` has one for each bit, in the order of
+/// the bits. A caller makes it by `of_relation`, `of_two`, `of_three` or `of_member`, whose contracts say what it accepts.
 ///
 /// A step takes time linear in the elements from that of its bit to before that of the next bit.
 #[derive(Drop)]
