@@ -1,6 +1,6 @@
 //! Three variables, x over 1 and 2, y over 2 and 3, and z over 1 and 3, and the constant of 0, 2 and 5. In the numbers
 //! that stand for sets bit e is true where e is an element.
-ghost use Rattle.std.specs.Prelude.{◌≡◌, ◌<◌, IfOk, IsSome, All, length, true};
+ghost use Rattle.std.specs.Prelude.{◌≡◌, IsSome, All, length};
 ghost use Rattle.std.specs.List.Sorted.{IsStrictlySortedBy};
 ghost use Rattle.set_meaning.specs.declared.problems.Relation.TheVariants as relations;
 ghost use Rattle.bit_layout.specs.Order.{place_cmp};
@@ -236,24 +236,21 @@ fn members(rt: HostRuntime) -> Result<(), Fail> {
 }
 
 /// The arguments x and y.
-fn pair(alloc: Global) -> Result<Vec<Arg>, AllocError>
-    ensures { IfOk result (λ args. FitsRelation relations.SetNe args.items) }
+fn pair() -> [Arg; 2]
+    ensures { FitsRelation relations.SetNe result }
 {
-    let mut args = Vec::new(alloc);
-    args.push(Arg::One(Term::Var(VarId(0))))?;
-    args.push(Arg::One(Term::Var(VarId(1))))?;
-    Ok(args)
+    [Arg::One(Term::Var(VarId(0))), Arg::One(Term::Var(VarId(1)))]
 }
 
 #[test]
 fn sets_that_differ(rt: HostRuntime) -> Result<(), Fail> {
     let alloc = rt.alloc();
     let places = places();
-    let args = pair(alloc)?;
+    let args = pair();
     assert!(rt; is_between_sets(Relation::SetNe));
     assert!(rt; !is_between_sets(Relation::SetCard));
     for truth in [false, true] {
-        let shape = SetShape::of_relation(alloc, &places, Relation::SetNe, truth, args.as_slice())?;
+        let shape = SetShape::of_relation(alloc, &places, Relation::SetNe, truth, &args)?;
         for word in 0..64_u32 {
             let differ = number_of(Given::X, word) != number_of(Given::Y, word);
             assert_eq!(rt; accepts(&shape, word), differ == truth, "{truth} at {word}");
