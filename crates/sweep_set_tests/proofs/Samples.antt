@@ -1,11 +1,10 @@
 -- The places of the tests, and the arguments of one relation.
-use Rattle.std.proofs.Common.{◌≡◌, ℕ, List, [], ◌∷◌, Some, refl, pos}
+use Rattle.std.proofs.Common.{ℕ, List, [], ◌∷◌, Some, refl, pos}
 use Rattle.std.specs.Prelude.{IsSome}
 use Rattle.std.specs.List.{All}
 use Rattle.std.specs.List.Sorted.{IsStrictlySortedBy}
 use Rattle.std.proofs.lemmas.List.Elements.{All-from_recursion}
 use Rattle.set_meaning.specs.declared.kinds.Kind.TheVariants as kind
-use Rattle.set_meaning.specs.declared.problems.VarId.{VarId}
 use Rattle.set_meaning.specs.declared.problems.Term.TheVariants.{Var}
 use Rattle.set_meaning.specs.declared.problems.Arg.TheVariants.{One}
 use Rattle.set_meaning.specs.declared.problems.Relation.TheVariants.{SetNe}
