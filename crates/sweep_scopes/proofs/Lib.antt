@@ -1,4 +1,4 @@
 mod Bits
-mod Meeting
+mod Sweeping
 pub mod Own
 mod PlaceLists

@@ -1,5 +1,5 @@
 //! A shape that is swept through the sides of three variables.
-ghost use Rattle.std.specs.Prelude.{◌≡◌, ◌↔◌, ◌<◌, ◌^◌, length, IsTrue, IfOk};
+ghost use Rattle.std.specs.Prelude.{◌≡◌, ◌↔◌, ◌<◌, ◌^◌, ◌∷◌, [], length, IsTrue, IfOk};
 ghost use Rattle.sweep_states.specs.Sweeps.{Each};
 ghost use Rattle.sweep_scopes.specs.Meetings.{Accepts, Fits, Meets, place_in, places_in};
 
@@ -45,10 +45,20 @@ pub fn is_met<S: Shape>(
             second: side_of(alloc, table, places, third)?,
         },
     };
-    let states = [shape.start()];
+    let first_state = shape.start();
+    let states = one(alloc, first_state)?;
     let ends = read_through(alloc, shape, 0, &filter, places.len(), states.as_slice())?;
     let met = some_accepts(shape, ends.as_slice());
     Ok(met)
+}
+
+/// The list of one state.
+fn one<X: Copy>(alloc: Global, state: X) -> Result<Vec<X>, AllocError>
+    ensures { IfOk result (λ states. states.items ≡ state ∷ []) }
+{
+    let mut states = Vec::new(alloc);
+    states.push(state)?;
+    Ok(states)
 }
 
 /// The side of one variable, beside the bits of the others.

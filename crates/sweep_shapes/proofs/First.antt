@@ -1,14 +1,15 @@
 -- A first value of each kind.
-use Rattle.std.proofs.Common.{◌≡◌, ◌≢◌, ℤ, List, [], ◌∷◌, Contains, refl, sym, subst}
+use Rattle.std.proofs.Common.{◌≡◌, ◌≢◌, ◌↔◌, ℤ, pos, ◌≤ℤ◌, List, [], ◌∷◌, Contains, refl, sym, subst, arith}
+use Rattle.std.proofs.lemmas.Int.{ints}
 use Rattle.set_meaning.specs.declared.kinds.Kind.{Kind}
 use Rattle.set_meaning.specs.declared.kinds.Kind.TheVariants as kind
 use Rattle.set_meaning.specs.declared.kinds.Value.{Value}
 use Rattle.set_meaning.specs.declared.kinds.Value.TheVariants as value
 use Rattle.set_meaning.specs.Kinds.{InKind}
 use Rattle.set_meaning.specs.Problems.{IsKind}
-use Rattle.set_meaning.specs.Sets.{Has, IsSubset, IsSetOf}
+use Rattle.set_meaning.specs.Sets.{Has, IsAscending, IsSubset}
 use Rattle.bit_layout.specs.Words.{least}
-use Rattle.bit_layout.proofs.Rising.{nothing_in_empty, in_head}
+use Rattle.bit_layout.proofs.Rising.{in_head}
 
 least_there : (numbers : List ℤ) → numbers ≢ [] → Contains numbers (least numbers)
 least_there [] some = absurd (some refl)
@@ -22,8 +23,11 @@ int_first k numbers elements x is same legal at =
     let here : InKind (kind.Int numbers) (value.Int x) = there in
     subst (λ j. InKind j (value.Int x)) (sym is) here
 
-pub set_first : (k : Kind) (universe set : List ℤ) → k ≡ kind.Set universe → IsSetOf [] set → InKind k (value.Set set)
-unfolding InKind IsSubset Has
-set_first k universe set is made =
-    let here : InKind (kind.Set universe) (value.Set set) = record { ascending = made.ascending; within = λ x h. absurd (nothing_in_empty x ((made.members x).0 h)) } in
+pub set_first : (k : Kind) (universe set : List ℤ) → k ≡ kind.Set universe → IsAscending set → ((x : ℤ) → Has set x ↔ ((pos 1 ≤ℤ x) × (x ≤ℤ pos 0))) → InKind k (value.Set set)
+unfolding InKind IsSubset
+set_first k universe set is up members =
+    let here : InKind (kind.Set universe) (value.Set set) = record { ascending = up; within = λ x h. let b = (members x).0 h in absurd (nothing_between x b.0 b.1) } in
     subst (λ j. InKind j (value.Set set)) (sym is) here
+  where
+    nothing_between : (x : ℤ) → pos 1 ≤ℤ x → x ≤ℤ pos 0 → ⊥
+    nothing_between x low high = omega (arith, ints)

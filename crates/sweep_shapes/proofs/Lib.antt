@@ -1,4 +1,5 @@
 mod Alike
+mod Deciding
 mod Filtering
 mod First
 mod Known

@@ -242,7 +242,7 @@ pub opened_all : (allowed : ℕ → Value → Type 0) (first base : List Value) 
     → Opened allowed first base choices scope
 opened_all allowed first base choices scope i all h = subst (λ done. Opened allowed first base choices done) (take_all i scope all) h
 
-not_less : (m n : ℕ) → m ≡ n → nat_cmp m n ≡ Less → ⊥
+pub not_less : (m n : ℕ) → m ≡ n → nat_cmp m n ≡ Less → ⊥
 not_less m n e less = let clash : Equal ≡ Less = sym (tied_itself nat_cmp_total n) ∙ sym (ap (λ k. nat_cmp k n) e) ∙ less in cc
 
 -- each variable of an ascending scope is none of those before it

@@ -39,7 +39,7 @@ some_value values k x P is h = subst (λ o. IsSomeAnd o P) is h
 -- ---- sides of other variables
 
 -- a variable that no side names has every value in its side
-unnamed : (kinds : List Kind) (table : List Node) (sides : Sides) (v : ℕ) (x : Value) → All (λ side. side.0 ≡ v → ⊥) sides → side_of kinds table sides v x ≡ true
+pub unnamed : (kinds : List Kind) (table : List Node) (sides : Sides) (v : ℕ) (x : Value) → All (λ side. side.0 ≡ v → ⊥) sides → side_of kinds table sides v x ≡ true
 unfolding side_of
 unnamed kinds table [] v x others = refl
 unnamed kinds table (s ∷ sides) v x others =

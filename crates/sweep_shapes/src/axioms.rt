@@ -64,13 +64,14 @@ fn is_possible(
 {
     let variables = scope(alloc, c)?;
     let mut values = first_values(alloc, kinds)?;
+    let slots = values.as_mut_slice();
     let mut choices: Vec<Choice> = Vec::new(alloc);
     let listed = variables.as_slice();
     for v in listed {
         let own = values_within(alloc, kinds, layout, table, sides, *v)?;
-        open(values.as_mut_slice(), &mut choices, *v, own)?;
+        open(slots, &mut choices, *v, own)?;
     }
-    let yes = holds_for_some(alloc, c, choices.as_slice(), values.as_mut_slice())?;
+    let yes = holds_for_some(alloc, c, choices.as_slice(), slots)?;
     Ok(yes)
 }
 
@@ -96,7 +97,7 @@ fn first_value(alloc: Global, kind: &Kind) -> Result<Value, AllocError>
         Kind::Bool => Ok(Value::Bool(false)),
         Kind::Int(numbers) => Ok(Value::Int(least(numbers.elements()))),
         Kind::Set(_) => {
-            let set = SetValue::from_list(alloc, [].as_slice())?;
+            let set = SetValue::from_range(alloc, 1, 0)?;
             Ok(Value::Set(set))
         }
     }

@@ -4,4 +4,4 @@ use Rattle.sweep_shapes.proofs.Opening.{Opened}
 use Rattle.sweep_shapes.proofs.axioms.is_possible.Given as goal
 
 abbrev pub invariant-loop-v : goal.invariant-loop-v
-invariant-loop-v l = Opened (IsAllowed l.kinds l.table l.sides) l.initial.values.items l.values.items l.choices.items (take l.v-index l.listed)
+invariant-loop-v l = Opened (IsAllowed l.kinds l.table l.sides) l.initial.slots l.slots l.choices.items (take l.v-index l.listed)

@@ -10,7 +10,7 @@ use Rattle.log_rules.specs.Tables.{IsTable, next_node, walk}
 use Rattle.log_rules.specs.Boxes.{FitsWidth}
 use Rattle.sweep_rules.specs.Rules.{Rules, run, accepts, both}
 use Rattle.sweep_rules.proofs.Reading.{accepts-both}
-use Rattle.sweep_states.specs.Sweeps.{Filtered, PassesOn, SomePasses, SomeEnds}
+use Rattle.sweep_states.specs.Sweeps.{Each, Filtered, PassesOn, SomePasses, SomeEnds}
 use Rattle.sweep_table.specs.Sides.{CountFrom, own_bits, own_count, side_rules}
 use Rattle.sweep_scopes.specs.declared.meeting.Slot.{Slot}
 use Rattle.sweep_scopes.specs.Meetings.{Accepts, Fits, Meets, Walks, places_in}
@@ -112,4 +112,32 @@ none_at_all rules states i all none =
     (λ yes. let clash : false ≡ true = yes in absurd (cc), λ h. absurd (none (subst (λ ys. Accepts rules ys) (sym (take_all i states all)) h)))
 
 pub one_accepts : {Q : Type 0} (rules : Rules Q) (states : List Q) (i : ℕ) (q : Q) → i < length states → q ≡ get_or states i q → rules.accept q ≡ true → IsTrue true ↔ Accepts rules states
-one_accepts rules states i q within is yes = (λ _. record { state = q; among = (i, within, sym is); accepted = yes }, λ _. refl)
+one_accepts rules states i q within is accepted = (λ _. record { state = q; among = (i, within, sym is); accepted = accepted }, λ _. refl)
+
+-- ---- the whole sweep
+
+pub each_one : {X : Type 0} (R : X → Type 0) (lent states : List X) (x : X) → lent ≡ states → states ≡ x ∷ [] → R x → Each R lent
+each_one R lent states x same one here y there =
+    elim (in_cons x [] y (subst (λ ys. Contains ys y) one (subst (λ ys. Contains ys y) same there))) [
+      | inl e ↦ subst R e here
+      | inr none ↦ absurd (nothing_in_empty y none)
+    ]
+
+pub each_end : {X : Type 0} (occurs : ℕ → X → Type 0) (lent ends : List X) (count places : ℕ) → lent ≡ ends → places ≡ count → Each (occurs (0 + count)) ends → Each (occurs places) lent
+each_end occurs lent ends count places same is each x there =
+    let e : 0 + count ≡ places = omega (arith, is) in
+    subst (λ n. occurs n x) e (each x (subst (λ ys. Contains ys x) same there))
+
+pub met_is : {Q : Type 0} → SidesAccept → (table : List Node) (places : List Place) (rules : Rules Q) (first second third : Slot) → IsTable table → Fits table places first → Fits table places second
+    → Fits table places third → (filter : Rules (ℕ × (ℕ × ℕ))) → filter ≡ both (slot_rules table places first) (both (slot_rules table places second) (slot_rules table places third))
+    → (states lent ends lent_ends : List Q) (start : Q) → lent ≡ states → states ≡ start ∷ [] → start ≡ rules.start → lent_ends ≡ ends
+    → ((rest : List Bool) → SomePasses (record { rules = rules; from = 0; filter = filter }) (length places) rest lent ↔ SomeEnds rules (0 + length places) rest ends)
+    → (P : Type 0) → P ↔ Accepts rules lent_ends → P ↔ Meets table places rules first second third
+met_is {Q} law table places rules first second third legal fits_first fits_second fits_third filter filter_is states lent ends lent_ends start same one started same_ends leads P answer =
+    let three = both (slot_rules table places first) (both (slot_rules table places second) (slot_rules table places third)) in
+    let moved = subst (λ f. (rest : List Bool) → SomePasses (record { rules = rules; from = 0; filter = f }) (length places) rest lent ↔ SomeEnds rules (0 + length places) rest ends) filter_is leads in
+    let here = subst (λ (ys : List Q). SomePasses (record { rules = rules; from = 0; filter = three }) (length places) [] ys ↔ SomeEnds rules (0 + length places) [] ends) (same ∙ one) (moved []) in
+    let meets = passes_is_meets law table places rules first second third legal fits_first fits_second fits_third start started in
+    let accepts_at = ends_accept rules (0 + length places) ends in
+    let told = subst (λ ys. P ↔ Accepts rules ys) same_ends answer in
+    (λ p. meets.0 (here.1 (accepts_at.1 (told.0 p))), λ m. told.1 (accepts_at.0 (here.0 (meets.1 m))))
