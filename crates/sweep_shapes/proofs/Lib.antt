@@ -7,3 +7,7 @@ mod Lists
 mod Trying
 mod Opening
 mod Satisfying
+mod SetGlue
+mod SetKinds
+mod SetSides
+mod SetTask

@@ -27,7 +27,7 @@ use Rattle.sweep_shapes.proofs.Opening.{Beside, IsWithin, Opened, found_or_besid
 
 -- ---- two lists side by side
 
-zip_each : {A B : Type 0} (R : A → B → Type 0) (xs : List A) (ys : List B) → length ys ≡ length xs → ((k : ℕ) (y : B) → slice_get ys k ≡ Some y → IsSomeAnd (slice_get xs k) (λ x. R x y)) → AllZip R xs ys
+pub zip_each : {A B : Type 0} (R : A → B → Type 0) (xs : List A) (ys : List B) → length ys ≡ length xs → ((k : ℕ) (y : B) → slice_get ys k ≡ Some y → IsSomeAnd (slice_get xs k) (λ x. R x y)) → AllZip R xs ys
 zip_each R [] [] long each = tt
 zip_each R [] (y ∷ ys) long each = absurd (omega (arith, long))
 zip_each R (x ∷ xs) [] long each = absurd (omega (arith, long))

@@ -5,6 +5,7 @@
 
 mod axioms;
 mod choices;
+mod sets;
 mod trials;
 
 pub use axioms::possible;
