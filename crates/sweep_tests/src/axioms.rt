@@ -32,7 +32,8 @@ fn set(alloc: Global, elements: &[i64]) -> Result<Arg, AllocError> {
 fn kinds(alloc: Global) -> Result<Vec<Kind>, AllocError> {
     let numbers = SetValue::from_list(alloc, [1, 3].as_slice())?;
     let universe = SetValue::from_list(alloc, [1, 2].as_slice())?;
-    vec![in alloc; Kind::Bool, Kind::Int(numbers), Kind::Set(universe)]
+    let kinds = vec![in alloc; Kind::Bool, Kind::Int(numbers), Kind::Set(universe)]?;
+    Ok(kinds)
 }
 
 fn problem(alloc: Global, c: Constraint) -> Result<Problem, AllocError> {
