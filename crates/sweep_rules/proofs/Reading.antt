@@ -1,5 +1,5 @@
 -- What shapes side by side and shapes over a span read.
-use Rattle.std.proofs.Common.{◌≡◌, ℕ, zero, suc, ◌+◌, ◌-◌, ◌<◌, ◌≤◌, Bool, true, false, cond, ◌&&◌, ◌||◌, List, [], ◌∷◌, ◌++◌, length, IsTrue, refl, sym, ◌∙◌, ap, inl, inr, length-append, arith}
+use Rattle.std.proofs.Common.{◌≡◌, ℕ, suc, ◌+◌, ◌-◌, ◌<◌, ◌≤◌, Bool, true, false, cond, ◌&&◌, List, [], ◌∷◌, ◌++◌, length, refl, sym, ◌∙◌, ap, inl, inr, length-append, arith}
 use Rattle.std.proofs.lemmas.Bool.{cases_lt}
 use Rattle.std.proofs.lemmas.Bool.Decides.{nat_tests}
 use Rattle.sweep_rules.specs.Rules.{Rules, run, accepts, both, is_in_span, span_of}
@@ -79,24 +79,24 @@ accepts-span_of rules front middle back =
     let second : run span (0 + skip) rules.start middle ≡ run rules 0 rules.start middle = within skip long rules (0 + skip) 0 rules.start middle (omega arith) (omega arith) in
     let end = run rules 0 rules.start middle in
     ap rules.accept (
-      run-append span 0 rules.start (front ++ middle) back
-      ∙ ap (λ q. run span (0 + length (front ++ middle)) q back) (run-append span 0 rules.start front middle ∙ ap (λ q. run span (0 + skip) q middle) first ∙ second)
-      ∙ behind skip long rules (0 + length (front ++ middle)) end back (simp length-append (omega arith)))
+    run-append span 0 rules.start (front ++ middle) back
+    ∙ ap (λ q. run span (0 + length (front ++ middle)) q back) (run-append span 0 rules.start front middle ∙ ap (λ q. run span (0 + skip) q middle) first ∙ second)
+    ∙ behind skip long rules (0 + length (front ++ middle)) end back (simp length-append (omega arith)))
 
 -- what is lost for the shape is lost over the span
 pub lost_over : {Q : Type 0} (skip long : ℕ) (rules : Rules Q) (at : ℕ) (q : Q) (bits : List Bool) → ((rest : List Bool) → rules.accept (run rules (at - skip) q rest) ≡ false)
     → rules.accept (run (span_of skip long rules) at q bits) ≡ false
 lost_over skip long rules at q [] lost = lost []
 lost_over skip long rules at q (b ∷ bs) lost = elim (cases_lt at skip) [
-    | inl low ↦
-        let e : at - skip ≡ at + 1 - skip = omega (arith, low) in
-        ap (λ x. rules.accept (run (span_of skip long rules) (at + 1) (cond x (rules.step (at - skip) q b) q) bs)) (below_span skip long at low)
-        ∙ lost_over skip long rules (at + 1) q bs (λ rest. ap (λ k. rules.accept (run rules k q rest)) (sym e) ∙ lost rest)
-    | inr from ↦ elim (cases_lt at (skip + long)) [
-      | inl to ↦
-          let e : at + 1 - skip ≡ at - skip + 1 = omega (arith, from) in
-          ap (λ x. rules.accept (run (span_of skip long rules) (at + 1) (cond x (rules.step (at - skip) q b) q) bs)) (in_span skip long at from to)
-          ∙ lost_over skip long rules (at + 1) (rules.step (at - skip) q b) bs (λ rest. ap (λ k. rules.accept (run rules k (rules.step (at - skip) q b) rest)) e ∙ lost (b ∷ rest))
-      | inr past ↦ ap rules.accept (behind skip long rules at q (b ∷ bs) past) ∙ lost []
-    ]
+  | inl low ↦
+      let e : at - skip ≡ at + 1 - skip = omega (arith, low) in
+      ap (λ x. rules.accept (run (span_of skip long rules) (at + 1) (cond x (rules.step (at - skip) q b) q) bs)) (below_span skip long at low)
+      ∙ lost_over skip long rules (at + 1) q bs (λ rest. ap (λ k. rules.accept (run rules k q rest)) (sym e) ∙ lost rest)
+  | inr from ↦ elim (cases_lt at (skip + long)) [
+    | inl to ↦
+        let e : at + 1 - skip ≡ at - skip + 1 = omega (arith, from) in
+        ap (λ x. rules.accept (run (span_of skip long rules) (at + 1) (cond x (rules.step (at - skip) q b) q) bs)) (in_span skip long at from to)
+        ∙ lost_over skip long rules (at + 1) (rules.step (at - skip) q b) bs (λ rest. ap (λ k. rules.accept (run rules k (rules.step (at - skip) q b) rest)) e ∙ lost (b ∷ rest))
+    | inr past ↦ ap rules.accept (behind skip long rules at q (b ∷ bs) past) ∙ lost []
   ]
+]

@@ -1,6 +1,6 @@
 -- How a relation is read bit by bit, over plain values: a deterministic finite automaton (Rabin and Scott, 1959) whose step may
 -- differ from place to place.
-use Rattle.std.specs.Prelude.{ℕ, ◌+◌, ◌-◌, ◌<◌, nat_lt, nat_le, Bool, ◌&&◌, if◌then◌else◌, List, [], ◌∷◌}
+use Rattle.std.specs.Prelude.{ℕ, ◌+◌, ◌-◌, nat_lt, nat_le, Bool, ◌&&◌, if◌then◌else◌, List, [], ◌∷◌}
 
 -- the state at the start, the state after the bit at a place, and which states accept at the end
 pub record Rules (Q : Type 0) : Type 0 where

@@ -11,6 +11,7 @@ use Rattle.std.proofs.lemmas.List.Sorted.{Contains-permutation, IsPermutation-sy
 pub distinct_same : {X : Type 0} (E : X → X → Bool) → IsEquivalence E → ((p q : X) → E p q ≡ true → p ≡ q) → (old sorted new : List X) → IsPermutation old sorted → IsFiltered (DiffersFromLast E) [] sorted new
     → (p : X) → Contains new p ↔ Contains old p
 distinct_same {X = X} E same identical old sorted new moved filtered p =
-    let e : new ≡ dedup E sorted = dedup_is E sorted new filtered in
-    (λ h. Contains-permutation sorted old p (IsPermutation-sym old sorted moved) (Contains-from_dedup E sorted p (subst (λ xs. Contains xs p) e h)),
-    λ h. subst (λ xs. Contains xs p) (sym e) (Contains-dedup same identical sorted p (Contains-permutation old sorted p moved h)))
+    let e : new ≡ dedup E sorted = dedup_is E sorted new filtered in (
+      λ h. Contains-permutation sorted old p (IsPermutation-sym old sorted moved) (Contains-from_dedup E sorted p (subst (λ xs. Contains xs p) e h)),
+      λ h. subst (λ xs. Contains xs p) (sym e) (Contains-dedup same identical sorted p (Contains-permutation old sorted p moved h)),
+    )

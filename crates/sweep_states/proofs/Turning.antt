@@ -1,9 +1,9 @@
 -- How sets of states go on from bit to bit.
-use Rattle.std.proofs.Common.{◌≡◌, ◌↔◌, ◌⊎◌, ℕ, zero, suc, ◌+◌, ◌<◌, ◌≤◌, Bool, true, false, List, [], ◌∷◌, ◌++◌, length, take, get_or, Contains, refl, sym, ◌∙◌, ap, subst, inl, inr, arith}
+use Rattle.std.proofs.Common.{◌≡◌, ◌↔◌, ◌⊎◌, ℕ, suc, ◌+◌, ◌<◌, ◌≤◌, Bool, true, false, List, [], ◌∷◌, ◌++◌, length, take, get_or, Contains, refl, sym, ◌∙◌, ap, subst, inl, inr, arith}
 use Rattle.std.proofs.lemmas.List.{take_more, take_all}
 use Rattle.std.proofs.lemmas.List.Elements.{Contains-push, Contains-push_cases, Contains-append_left}
-use Rattle.sweep_rules.specs.Rules.{Rules, run}
-use Rattle.sweep_states.specs.Sweeps.{Each, Filtered, step_both, IsDead, IsDeadPair, LeadsTo, PassesOn, SomePassesOn, SomeEnds, SomePasses}
+use Rattle.sweep_rules.specs.Rules.{run}
+use Rattle.sweep_states.specs.Sweeps.{Each, Filtered, step_both, IsDeadPair, LeadsTo, PassesOn, SomePassesOn, SomeEnds, SomePasses}
 
 -- ---- lists that grow
 
@@ -59,12 +59,12 @@ leads_more {P = P} {Q = Q} f i done s old middle new leads low high = record {
     | inr e ↦ let R : P × Q → Type 0 = λ u. Contains {X = P × Q} new (step_both f i u b) ⊎ IsDeadPair f (step_both f i u b) in subst R e (here b)
   ];
 } where
-    here : (b : Bool) → Contains {X = P × Q} new (step_both f i s b) ⊎ IsDeadPair f (step_both f i s b)
-    here true = there_or_dead f (step_both f i s true) middle new high
-    here false = elim (there_or_dead f (step_both f i s false) old middle low) [
-      | inl there ↦ inl (kept_by_push f (step_both f i s true) (step_both f i s false) middle new high there)
-      | inr dead ↦ inr dead
-    ]
+  here : (b : Bool) → Contains {X = P × Q} new (step_both f i s b) ⊎ IsDeadPair f (step_both f i s b)
+  here true = there_or_dead f (step_both f i s true) middle new high
+  here false = elim (there_or_dead f (step_both f i s false) old middle low) [
+    | inl there ↦ inl (kept_by_push f (step_both f i s true) (step_both f i s false) middle new high there)
+    | inr dead ↦ inr dead
+  ]
 
 -- what the loop over the pairs keeps: the pairs after the bit, all of which occur there
 pub record Advances {P Q : Type 0} (f : Filtered P Q) (i : ℕ) (R : P × Q → Type 0) (states next : List (P × Q)) : Type 0 where
@@ -145,12 +145,13 @@ pub keeps_at_start : {P Q : Type 0} (f : Filtered P Q) (count : ℕ) (states : L
     → Each {X = P × Q} (λ s. Contains states s.0 × (s.1 ≡ f.filter.start)) pairs → Each (λ q. Contains {X = P × Q} pairs (q, f.filter.start)) states
     → KeepsOn f count states 0 pairs
 keeps_at_start {P = P} {Q = Q} f count states pairs only every left rest e =
-    let same : count ≡ left = omega (arith, e) in
-    ((λ h. record { state = (h.state, f.filter.start); among = every h.state h.among; on = subst (λ n. PassesOn f 0 n rest (h.state, f.filter.start)) same h.on }),
-    (λ h.
-        let o = only h.state h.among in
-        let is : h.state ≡ (h.state.0, f.filter.start) = λ j. (h.state.0, o.1 j) in
-        record { state = h.state.0; among = o.0; on = subst (λ n. PassesOn f 0 n rest (h.state.0, f.filter.start)) (sym same) (subst (PassesOn f 0 left rest) is h.on) }))
+    let same : count ≡ left = omega (arith, e) in (
+      (λ h. record { state = (h.state, f.filter.start); among = every h.state h.among; on = subst (λ n. PassesOn f 0 n rest (h.state, f.filter.start)) same h.on }),
+      (λ h.
+          let o = only h.state h.among in
+          let is : h.state ≡ (h.state.0, f.filter.start) = λ j. (h.state.0, o.1 j) in
+          record { state = h.state.0; among = o.0; on = subst (λ n. PassesOn f 0 n rest (h.state.0, f.filter.start)) (sym same) (subst (PassesOn f 0 left rest) is h.on) }),
+    )
 
 pub keeps_turn : {P Q : Type 0} (f : Filtered P Q) (count : ℕ) (states : List P) (i : ℕ) (pairs next : List (P × Q)) → LeadsTo f i pairs next → KeepsOn f count states i pairs → KeepsOn f count states (i + 1) next
 keeps_turn f count states i pairs next leads keeps left rest e =

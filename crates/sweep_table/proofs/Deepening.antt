@@ -1,6 +1,6 @@
 -- The latest places that are tested, as the table grows.
-use Rattle.std.proofs.Common.{◌≡◌, ◌⊎◌, ℕ, zero, suc, ◌+◌, ◌-◌, ◌<◌, ◌≤◌, nat_lt, true, false, cond, max, map, List, [], ◌∷◌, ◌++◌, length, get_or, Option, Some, None, refl, sym, ap, ◌∙◌, subst, inl, inr, arith}
-use Rattle.std.specs.Prelude.{slice_get, slice_index_or, MatchOption, IfSome, IfNone}
+use Rattle.std.proofs.Common.{◌≡◌, ◌⊎◌, ℕ, suc, ◌+◌, ◌-◌, ◌<◌, ◌≤◌, nat_lt, true, false, cond, max, map, List, [], ◌∷◌, ◌++◌, length, get_or, Option, Some, None, refl, sym, ap, ◌∙◌, subst, inl, inr, arith}
+use Rattle.std.specs.Prelude.{slice_get}
 use Rattle.std.proofs.lemmas.List.{length-append, get_or_append_left, get_or-append-add}
 use Rattle.std.proofs.lemmas.Bool.{cases_lt}
 use Rattle.std.specs.Option.{option_map}
@@ -59,19 +59,19 @@ depth_over table node lo hi is_lo is_hi = record {
     ]
   ];
 } where
-    bound : (table : List Node) (n : ℕ) (o : Option ℕ) (q : ℕ) → IsDepth table n o → Tests table n q → q ≤ or_zero o
-    bound table n None q h t = absurd (h q t)
-    bound table n (Some d) q h t = h.latest q t
+  bound : (table : List Node) (n : ℕ) (o : Option ℕ) (q : ℕ) → IsDepth table n o → Tests table n q → q ≤ or_zero o
+  bound table n None q h t = absurd (h q t)
+  bound table n (Some d) q h t = h.latest q t
 
-    reached : (table : List Node) (n : ℕ) (o : Option ℕ) → IsDepth table n o → (or_zero o ≡ 0) ⊎ Tests table n (or_zero o)
-    reached table n None h = inl refl
-    reached table n (Some d) h = inr h.tested
+  reached : (table : List Node) (n : ℕ) (o : Option ℕ) → IsDepth table n o → (or_zero o ≡ 0) ⊎ Tests table n (or_zero o)
+  reached table n None h = inl refl
+  reached table n (Some d) h = inr h.tested
 
-    below : (lo : Option ℕ) (q : ℕ) → q ≤ or_zero lo → q ≤ max (max node.place (or_zero lo)) (or_zero hi)
-    below lo q h = omega (arith, h)
+  below : (lo : Option ℕ) (q : ℕ) → q ≤ or_zero lo → q ≤ max (max node.place (or_zero lo)) (or_zero hi)
+  below lo q h = omega (arith, h)
 
-    above : (hi : Option ℕ) (q : ℕ) → q ≤ or_zero hi → q ≤ max (max node.place (or_zero lo)) (or_zero hi)
-    above hi q h = omega (arith, h)
+  above : (hi : Option ℕ) (q : ℕ) → q ≤ or_zero hi → q ≤ max (max node.place (or_zero lo)) (or_zero hi)
+  above hi q h = omega (arith, h)
 
 -- ---- one node more
 
@@ -97,36 +97,36 @@ new_deepest table node depth legal next over = record {
   ];
   latest = latest;
 } where
-    grown : List Node
-    grown = table ++ node ∷ []
+  grown : List Node
+  grown = table ++ node ∷ []
 
-    is : node_at (table ++ node ∷ []) (next_node table) ≡ Some node
-    is = new_is table node
+  is : node_at (table ++ node ∷ []) (next_node table) ≡ Some node
+  is = new_is table node
 
-    same : (other : Node) → node_at (table ++ node ∷ []) (next_node table) ≡ Some other → node ≡ other
-    same other h = let e : Some node ≡ Some other = sym (new_is table node) ∙ h in cc
+  same : (other : Node) → node_at (table ++ node ∷ []) (next_node table) ≡ Some other → node ≡ other
+  same other h = let e : Some node ≡ Some other = sym (new_is table node) ∙ h in cc
 
-    latest : (q : ℕ) → Tests (table ++ node ∷ []) (next_node table) q → q ≤ depth
-    latest q (here {node = other} h) = subst (λ (d : Node). d.place ≤ depth) (same other h) over.from
-    latest q (by_lo {node = other} h rest) = over.lo q (tests_stay table (node ∷ []) legal node.lo q next.lo.earlier (subst (λ (d : Node). Tests (table ++ node ∷ []) d.lo q) (sym (same other h)) rest))
-    latest q (by_hi {node = other} h rest) = over.hi q (tests_stay table (node ∷ []) legal node.hi q next.hi.earlier (subst (λ (d : Node). Tests (table ++ node ∷ []) d.hi q) (sym (same other h)) rest))
+  latest : (q : ℕ) → Tests (table ++ node ∷ []) (next_node table) q → q ≤ depth
+  latest q (here {node = other} h) = subst (λ (d : Node). d.place ≤ depth) (same other h) over.from
+  latest q (by_lo {node = other} h rest) = over.lo q (tests_stay table (node ∷ []) legal node.lo q next.lo.earlier (subst (λ (d : Node). Tests (table ++ node ∷ []) d.lo q) (sym (same other h)) rest))
+  latest q (by_hi {node = other} h rest) = over.hi q (tests_stay table (node ∷ []) legal node.hi q next.hi.earlier (subst (λ (d : Node). Tests (table ++ node ∷ []) d.hi q) (sym (same other h)) rest))
 
 pub depths_more : (nodes : List Node) (depths : List ℕ) (node : Node) (depth : ℕ) → IsTable nodes → IsNext nodes node → length depths ≡ length nodes → IsDepthOver nodes node depth → HaveDepths nodes depths
     → HaveDepths (nodes ++ node ∷ []) (depths ++ depth ∷ [])
 depths_more nodes depths node depth legal next long over have n other is = elim (cases_lt n (length nodes + 2)) [
-    | inl less ↦
-        let known : node_at nodes n ≡ Some other = sym (node_stays nodes (node ∷ []) n less) ∙ is in
-        let large : 2 ≤ n = (node_is nodes n other known).0 in
-        let within : n - 2 < length depths = omega (arith, less, long, large) in
-        subst (IsDeepest (nodes ++ node ∷ []) n) (sym (get_or_append_left depths (depth ∷ []) 0 (n - 2) within)) (deepest_stays nodes (node ∷ []) n (get_or depths (n - 2) 0) legal less (have n other known))
-    | inr more ↦
-        let there : n < length (nodes ++ node ∷ []) + 2 = node_there (nodes ++ node ∷ []) n other is in
-        let grown : length (nodes ++ node ∷ []) ≡ length nodes + 1 = length-append nodes (node ∷ []) in
-        let e : n ≡ length nodes + 2 = omega (arith, more, there, grown) in
-        let at : n - 2 ≡ length depths + 0 = omega (arith, e, long) in
-        let last : get_or (depths ++ depth ∷ []) (n - 2) 0 ≡ depth = ap (λ k. get_or (depths ++ depth ∷ []) k 0) at ∙ get_or-append-add depths (depth ∷ []) 0 0 in
-        subst (λ m. IsDeepest (nodes ++ node ∷ []) m (get_or (depths ++ depth ∷ []) (n - 2) 0)) (sym e) (subst (IsDeepest (nodes ++ node ∷ []) (length nodes + 2)) (sym last) (new_deepest nodes node depth legal next over))
-  ]
+  | inl less ↦
+      let known : node_at nodes n ≡ Some other = sym (node_stays nodes (node ∷ []) n less) ∙ is in
+      let large : 2 ≤ n = (node_is nodes n other known).0 in
+      let within : n - 2 < length depths = omega (arith, less, long, large) in
+      subst (IsDeepest (nodes ++ node ∷ []) n) (sym (get_or_append_left depths (depth ∷ []) 0 (n - 2) within)) (deepest_stays nodes (node ∷ []) n (get_or depths (n - 2) 0) legal less (have n other known))
+  | inr more ↦
+      let there : n < length (nodes ++ node ∷ []) + 2 = node_there (nodes ++ node ∷ []) n other is in
+      let grown : length (nodes ++ node ∷ []) ≡ length nodes + 1 = length-append nodes (node ∷ []) in
+      let e : n ≡ length nodes + 2 = omega (arith, more, there, grown) in
+      let at : n - 2 ≡ length depths + 0 = omega (arith, e, long) in
+      let last : get_or (depths ++ depth ∷ []) (n - 2) 0 ≡ depth = ap (λ k. get_or (depths ++ depth ∷ []) k 0) at ∙ get_or-append-add depths (depth ∷ []) 0 0 in
+      subst (λ m. IsDeepest (nodes ++ node ∷ []) m (get_or (depths ++ depth ∷ []) (n - 2) 0)) (sym e) (subst (IsDeepest (nodes ++ node ∷ []) (length nodes + 2)) (sym last) (new_deepest nodes node depth legal next over))
+]
 
 map_push : {X Y : Type 0} (f : X → Y) (xs : List X) (x : X) → map f (xs ++ x ∷ []) ≡ map f xs ++ f x ∷ []
 map_push f [] x = refl
@@ -183,7 +183,7 @@ deepest_here a table n entry view kept large there is =
     let long : length (nodes_of a) ≡ length a.entries.items = length-nodes a.entries.items in
     let within : n - 2 < length a.entries.items = omega (arith, large, known, long) in
     let at : slice_get (depths_of a) (n - 2) ≡ Some entry.depth =
-        slice_get-map (λ (e : Entry). e.depth) a.entries.items (n - 2) ∙ ap (option_map (λ (e : Entry). e.depth)) (slice_get-get_or a.entries.items (n - 2) entry within ∙ ap Some (sym is)) in
+    slice_get-map (λ (e : Entry). e.depth) a.entries.items (n - 2) ∙ ap (option_map (λ (e : Entry). e.depth)) (slice_get-get_or a.entries.items (n - 2) entry within ∙ ap Some (sym is)) in
     subst (λ t. IsDeepest t n entry.depth) view (depth_at a n entry.depth kept large at known)
   where
     length-nodes : (xs : List Entry) → length (map (λ (e : Entry). e.node) xs) ≡ length xs

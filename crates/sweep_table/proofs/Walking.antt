@@ -7,7 +7,7 @@ use Rattle.std.proofs.lemmas.Bool.{eqb-true, eqb-false, cases_lt, ne_eqb}
 use Rattle.std.proofs.lemmas.Bool.Decides.{nat_tests}
 use Rattle.std.proofs.lemmas.Option.{slice_get-get_or}
 use Rattle.log_rules.specs.declared.nodes.Node.{Node}
-use Rattle.log_rules.specs.Tables.{node_at, next_node, child, walk, walk_back, IsDeeper, IsTable, Tests, here, by_lo, by_hi}
+use Rattle.log_rules.specs.Tables.{node_at, next_node, child, walk, walk_back, IsTable, here, by_lo, by_hi}
 use Rattle.log_rules.specs.Boxes.{FitsWidth}
 use Rattle.log_rules.proofs.Walks.{walk_of_an_end, walk_to_the_child, IsChildBelow, lo_below, hi_below}
 use Rattle.sweep_rules.specs.Rules.{run, accepts}
@@ -98,12 +98,12 @@ steps table legal place width n front rest b long at = by_node (node_at table n)
 -- a number below the next that is no node's is 0 or 1
 no_node : (table : List Node) (n : ℕ) → n < next_node table → node_at table n ≡ None → n < 2
 no_node table n there none = elim (cases_lt n 2) [
-    | inl less ↦ less
-    | inr more ↦
-        let within : n - 2 < length table = omega (arith, there, more) in
-        let is : node_at table n ≡ slice_get table (n - 2) = ap (λ b. cond b None (slice_get table (n - 2))) (small_not more) in
-        absurd (found (slice_get table (n - 2)) (sym is ∙ none) (get_or table (n - 2) (record { place = 0; lo = 0; hi = 0 })) (slice_get-get_or table (n - 2) (record { place = 0; lo = 0; hi = 0 }) within))
-  ]
+  | inl less ↦ less
+  | inr more ↦
+      let within : n - 2 < length table = omega (arith, there, more) in
+      let is : node_at table n ≡ slice_get table (n - 2) = ap (λ b. cond b None (slice_get table (n - 2))) (small_not more) in
+      absurd (found (slice_get table (n - 2)) (sym is ∙ none) (get_or table (n - 2) (record { place = 0; lo = 0; hi = 0 })) (slice_get-get_or table (n - 2) (record { place = 0; lo = 0; hi = 0 }) within))
+]
   where
     small_not : 2 ≤ n → nat_lt n 2 ≡ false
     small_not more = grind (arith, nat_tests)
@@ -175,9 +175,9 @@ far_walk table n word far = let e : length (reverse table) ≡ length table = le
 
 no_node_walk : (table : List Node) (n : ℕ) (word : List Bool) → node_at table n ≡ None → walk table n word ≡ (n == 1)
 no_node_walk table n word none = elim (cases_lt n (next_node table)) [
-    | inl there ↦ walk_of_an_end table n word (no_node table n there none)
-    | inr far ↦ far_walk table n word far
-  ]
+  | inl there ↦ walk_of_an_end table n word (no_node table n there none)
+  | inr far ↦ far_walk table n word far
+]
 
 child_below : (table : List Node) (word : List Bool) (n : ℕ) (node : Node) → IsTable table → node_at table n ≡ Some node → IsChildBelow table n node.place (child node word)
 child_below table word n node legal is = by (slice_index_or word node.place false)

@@ -1,5 +1,5 @@
 use Rattle.std.proofs.Common.{◌≡◌, ◌+◌, true, false, subst, arith}
-use Rattle.sweep_states.specs.Sweeps.{Filtered, step_both}
+use Rattle.sweep_states.specs.Sweeps.{Filtered}
 use Rattle.sweep_states.proofs.Turning.{advances_turn, advances_all, leads_same, each_same}
 use Rattle.sweep_states.proofs.read.advance.Goals as goal
 
@@ -25,5 +25,5 @@ pub returns-clause-leads : goal.returns-clause-leads
 returns-clause-leads g c =
     let f : Filtered g.row.S-State.Denot g.row.T-State.Denot = record { rules = g.S.Shape.rules c.args.shape.now; from = c.args.from; filter = g.T.Shape.rules c.args.filter.now } in
     let all = advances_all f c.args.i (λ s. g.S.Shape.occurs c.args.shape.now (c.args.from + (c.args.i + 1)) s.0 × g.T.Shape.occurs c.args.filter.now (c.args.i + 1) s.1)
-        c.args.pairs.now c.loop-pair.pair-index c.loop-pair.next.items c.loop-pair-test.false c.loop-pair.invariant in
+    c.args.pairs.now c.loop-pair.pair-index c.loop-pair.next.items c.loop-pair-test.false c.loop-pair.invariant in
     leads_same f c.args.i c.args.pairs.now c.loop-pair.next.items c.make_distinct.new.states.items c.make_distinct.ensures.same all.leads

@@ -1,5 +1,4 @@
-use Rattle.std.proofs.Common.{◌+◌, List, take}
-use Rattle.sweep_states.specs.Sweeps.{Each, LeadsTo}
+use Rattle.std.proofs.Common.{◌+◌, take}
 use Rattle.sweep_states.proofs.Turning.{Advances}
 use Rattle.sweep_states.proofs.read.advance.Given as goal
 

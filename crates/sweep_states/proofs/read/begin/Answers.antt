@@ -1,4 +1,4 @@
-use Rattle.std.proofs.Common.{refl, subst}
+use Rattle.std.proofs.Common.{refl}
 use Rattle.sweep_states.proofs.Beginning.{begins_turn, begins_given, begin_occurs}
 use Rattle.sweep_states.proofs.read.begin.Goals as goal
 

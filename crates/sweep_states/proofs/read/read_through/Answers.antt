@@ -27,7 +27,7 @@ pub finish-requires-clause-occur : goal.finish-requires-clause-occur
 finish-requires-clause-occur g c =
     let e : c.loop-i.i ≡ c.args.count = omega arith in
     let here = subst (λ n. Each {X = g.row.S-State.Denot × g.row.T-State.Denot} (λ s. g.S.Shape.occurs c.args.shape.now (c.args.from + n) s.0 × g.T.Shape.occurs c.args.filter.now n s.1)
-        c.loop-i.pairs.items) e c.loop-i.invariant.occur in
+    c.loop-i.pairs.items) e c.loop-i.invariant.occur in
     subst (λ pairs. Each {X = g.row.S-State.Denot × g.row.T-State.Denot} (λ s. g.S.Shape.occurs c.args.shape.now (c.args.from + c.args.count) s.0 × g.T.Shape.occurs c.args.filter.now c.args.count s.1) pairs)
     (sym c.as_slice-2.ensures.value) here
 

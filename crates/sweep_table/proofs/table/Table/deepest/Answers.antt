@@ -1,4 +1,4 @@
-use Rattle.std.proofs.Common.{◌≡◌, ◌-◌, ◌∙◌, List, ap, get_or, arith}
+use Rattle.std.proofs.Common.{◌-◌, ◌∙◌, List, ap, get_or, arith}
 use Rattle.sweep_table.specs.declared.table.Entry.{Entry}
 use Rattle.sweep_table.proofs.Deepening.{deepest_here}
 use Rattle.sweep_table.proofs.table.Table.deepest.Goals as goal
