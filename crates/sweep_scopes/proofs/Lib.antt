@@ -1,0 +1,4 @@
+mod Bits
+mod Sweeping
+pub mod Own
+mod PlaceLists

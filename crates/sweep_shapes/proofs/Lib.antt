@@ -1,0 +1,13 @@
+mod Alike
+mod Deciding
+mod Filtering
+mod First
+mod Known
+mod Lists
+mod Trying
+mod Opening
+mod Satisfying
+mod SetGlue
+mod SetKinds
+mod SetSides
+mod SetTask

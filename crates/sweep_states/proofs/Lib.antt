@@ -1,0 +1,4 @@
+mod Beginning
+mod Distinct
+mod Finishing
+mod Turning

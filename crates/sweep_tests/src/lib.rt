@@ -1,0 +1,7 @@
+//! Tests of what the checker asks of a log's nodes and axioms, against values from outside.
+#![tactic(auto)]
+
+#[cfg(test)]
+mod axioms;
+#[cfg(test)]
+mod nodes;
