@@ -11,7 +11,7 @@ pub struct Marks {
 
 impl Marks {
     /// No set has it.
-    pub fn none() -> Marks
+    pub(crate) fn none() -> Marks
         ensures { result ≡ unmarked }
     {
         Marks {
@@ -22,7 +22,7 @@ impl Marks {
     }
 
     /// The sets of either.
-    pub fn joined(self, other: Marks) -> Marks
+    pub(crate) fn joined(self, other: Marks) -> Marks
         ensures { result ≡ joined self other }
     {
         Marks {
@@ -33,7 +33,7 @@ impl Marks {
     }
 
     /// These sets where the bit is true, and none otherwise.
-    pub fn when(self, bit: bool) -> Marks
+    pub(crate) fn when(self, bit: bool) -> Marks
         ensures { result ≡ when bit self }
     {
         if bit { self } else { Marks::none() }

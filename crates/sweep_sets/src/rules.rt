@@ -59,7 +59,7 @@ impl Rule {
     }
 
     /// What is known after one more element, which these sets have.
-    pub fn close(self, progress: Progress, marks: Marks) -> Progress
+    pub(crate) fn close(self, progress: Progress, marks: Marks) -> Progress
         ensures { result ≡ close self progress marks }
     {
         match self {
@@ -76,7 +76,7 @@ impl Rule {
     }
 
     /// Whether the relation holds of sets that have led here, once all elements are read.
-    pub fn verdict(self, progress: Progress) -> bool
+    pub(crate) fn verdict(self, progress: Progress) -> bool
         ensures { result ≡ verdict self progress }
     {
         match progress {
