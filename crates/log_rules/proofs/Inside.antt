@@ -1,7 +1,6 @@
 -- Assignments in boxes, and sides as the table grows.
-use Rattle.std.proofs.Common.{◌≡◌, ◌≢◌, ℕ, zero, suc, ◌+◌, ◌<◌, ◌==◌, Bool, true, false, not, ◌&&◌, ◌||◌, cond, List, [], ◌∷◌, ◌++◌, length, Option, Some, None, refl, sym, ap, ◌∙◌, subst, inl, inr, arith}
+use Rattle.std.proofs.Common.{◌≡◌, ℕ, zero, suc, ◌+◌, ◌<◌, ◌==◌, Bool, true, false, not, ◌&&◌, ◌||◌, cond, List, [], ◌∷◌, ◌++◌, length, Option, Some, None, refl, sym, ap, ◌∙◌, subst, inl, inr, arith}
 use Rattle.std.specs.Prelude.{◌⊎◌, ℤ, ◌≤ℤ◌, slice_get, IsSomeAnd, IfSome, All, Any, option_map, option_and_then}
-use Rattle.std.specs.List.{list_all}
 use Rattle.std.proofs.Math.ListN.{get_or-append}
 use Rattle.std.proofs.lemmas.List.{length-append}
 use Rattle.std.proofs.lemmas.List.Elements.{All-head, All-tail}
@@ -17,7 +16,6 @@ use Rattle.set_meaning.specs.declared.problems.Goal.{Goal}
 use Rattle.set_meaning.specs.declared.problems.Goal.TheVariants.{Satisfy, Minimize, Maximize}
 use Rattle.set_meaning.specs.declared.problems.VarId.{VarId}
 use Rattle.set_meaning.specs.declared.problems.Term.TheVariants.{Var}
-use Rattle.set_meaning.specs.declared.rows.Sort.{Sort}
 use Rattle.set_meaning.specs.declared.rows.Sort.TheVariants.{Integer}
 use Rattle.set_meaning.specs.Kinds.{InKind, IsAssignment}
 use Rattle.set_meaning.specs.Rows.{sort_of_kind, HasSort}
@@ -26,7 +24,7 @@ use Rattle.set_meaning.specs.Problems.{IsGoal}
 use Rattle.set_meaning.specs.Solutions.{CoversBy}
 use Rattle.bit_layout.specs.Words.{width_of}
 use Rattle.log_rules.specs.declared.nodes.Node.{Node}
-use Rattle.log_rules.specs.Tables.{next_node, walk, Tests, IsTable}
+use Rattle.log_rules.specs.Tables.{next_node, walk, IsTable}
 use Rattle.log_rules.specs.Boxes.{Sides, IsInitial, word_at, side_of, IsWithin, InBox, resolvent, FitsWidth, IsSide, AreSides}
 use Rattle.log_rules.specs.Rules.{IsBoxOf}
 use Rattle.log_rules.proofs.Fronts.{nothing_at, same_items}

@@ -1,12 +1,12 @@
 -- Walks in tables of nodes: a walk goes from a node to its child, and stays as the table grows.
-use Rattle.std.proofs.Common.{◌≡◌, ℕ, zero, suc, ◌+◌, ◌-◌, ◌<◌, ◌≤◌, ◌==◌, nat_lt, Bool, true, false, cond, List, [], ◌∷◌, ◌++◌, length, Option, Some, None, refl, sym, ap, ◌∙◌, subst, inl, inr, arith}
-use Rattle.std.specs.Prelude.{◌⊎◌, reverse, slice_get, slice_index_or, IfSome}
+use Rattle.std.proofs.Common.{◌≡◌, ℕ, ◌+◌, ◌-◌, ◌<◌, ◌≤◌, ◌==◌, nat_lt, Bool, true, false, cond, List, [], ◌∷◌, ◌++◌, length, Some, None, refl, sym, ap, ◌∙◌, subst, inl, inr, arith}
+use Rattle.std.specs.Prelude.{reverse, slice_get, slice_index_or, IfSome}
 use Rattle.std.proofs.lemmas.List.{append_assoc, length-append, reverse-append, length-reverse}
-use Rattle.std.proofs.lemmas.Bool.{ne_eqb, eq-eqb, ltb-true, ltb-false}
+use Rattle.std.proofs.lemmas.Bool.{ne_eqb, eq-eqb, ltb-false}
 use Rattle.std.proofs.lemmas.Option.{slice_get_within}
 use Rattle.log_rules.specs.declared.nodes.Node.{Node}
 use Rattle.log_rules.specs.Tables.{node_at, next_node, child, walk_back, walk, IsDeeper, IsChild, IsNext, IsTable, Tests, here, by_lo, by_hi}
-use Rattle.log_rules.proofs.Fronts.{front_at, Cut, cut_at, not_empty, last_or_before}
+use Rattle.log_rules.proofs.Fronts.{front_at, cut_at, not_empty, last_or_before}
 
 -- ---- walks from the newest node back
 

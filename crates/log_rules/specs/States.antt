@@ -1,5 +1,5 @@
 -- What the lines of a log have made so far: a reading of the lines in whole lists. This project's own.
-use Rattle.std.specs.Prelude.{ℕ, nat_lt, Bool, true, false, List, [], ◌∷◌, ◌++◌, map, length, Option, None, Some, slice_get, filter_map}
+use Rattle.std.specs.Prelude.{ℕ, nat_lt, Bool, true, List, [], ◌∷◌, ◌++◌, map, length, Option, None, Some, slice_get, filter_map}
 use Rattle.set_meaning.specs.declared.kinds.Value.{Value}
 use Rattle.set_meaning.specs.declared.kinds.Value.TheVariants as value
 use Rattle.log_text.specs.declared.line.LogValue.{LogValue}

@@ -1,6 +1,6 @@
 -- The table of nodes that a log writes out, and the walk of a word in it. This project's own; that a set of words is kept as such
 -- nodes is of Bryant, IEEE Transactions on Computers 1986.
-use Rattle.std.specs.Prelude.{◌≡◌, ℕ, ◌+◌, ◌-◌, ◌<◌, ◌==◌, nat_lt, Bool, false, cond, List, [], ◌∷◌, ◌++◌, length, reverse, Option, None, Some, IsSome, IfSome, slice_get, slice_index_or, ◌⊎◌}
+use Rattle.std.specs.Prelude.{◌≡◌, ℕ, ◌+◌, ◌-◌, ◌<◌, ◌==◌, nat_lt, Bool, false, cond, List, [], ◌∷◌, ◌++◌, length, reverse, Option, None, Some, IfSome, slice_get, slice_index_or}
 use Rattle.log_rules.specs.declared.nodes.Node.{Node}
 
 -- ---- numbers
