@@ -111,7 +111,10 @@ fn a_line_has_a_limit(rt: HostRuntime) -> Result<(), Fail> {
         let text = long_text(alloc, more)?;
         let mut desk = desk_with(alloc, text.as_slice())?;
         let answers = told(alloc, &mut desk, 2)?;
-        assert!(rt; answers.as_slice() == expected.as_bytes(), "with {more} more");
+        assert!(rt;
+            answers.as_slice() == expected.as_bytes(),
+            "with {more} more"
+        );
     }
     Ok(())
 }

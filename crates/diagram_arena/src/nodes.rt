@@ -102,6 +102,7 @@ impl Node {
 
 // A node and its entry in the index take 64 bytes, 8 of them for the slot, beside what the hash table adds (14 or more).
 const _: () = prove!(size_of::<Node>() == 32);
+
 const _: () = prove!(size_of::<Triple>() + size_of::<NodeId>() == 24);
 
 /// Why a node was not made.

@@ -21,9 +21,7 @@ use bit_layout::{Bit, Layout, words_of_sets_have_values};
 use bit_machine::Both;
 use choice_machine::{ChoiceMachine, choice_of};
 use linear_machine::Linear;
-use scope_words::{
-    scope_bits, variables_in, words_are_read_by_position, words_give_one_value,
-};
+use scope_words::{scope_bits, variables_in, words_are_read_by_position, words_give_one_value};
 use set_meaning::{Arg, Constraint, Kind, Relation};
 use std::alloc::{AllocError, Global};
 use table_machine::{TableMachine, relations_have_words, values_fit_together};

@@ -10,8 +10,8 @@ ghost use Rattle.linear_machine.specs.Sums.{IsSmall};
 ghost use Rattle.table_machine.specs.Tables.{AreTables};
 
 use crate::samples::{bits, listed, word};
-use choice_machine::{Losing, choice_of};
 use bit_machine::{Both, Machine, build};
+use choice_machine::{Losing, choice_of};
 use diagram_arena::{Ref, Stop};
 use diagram_ops::Ops;
 use linear_machine::{Comparison, Linear};
@@ -252,4 +252,3 @@ fn lets_equal_states_meet(rt: HostRuntime) -> Result<(), Fail> {
     assert_eq!(rt; ops.pool().arena().len(), 10_250);
     Ok(())
 }
-

@@ -2,10 +2,10 @@
 ghost use Rattle.std.specs.Prelude.{not, ◌&&◌, ◌||◌, true};
 ghost use Rattle.bit_machine.specs.Comparisons.{beq, beq-true};
 
-use element_machine::{ByElements, ElementMachine, Entry, Marks};
 use bit_machine::build;
 use diagram_arena::{Ref, Stop};
 use diagram_ops::Ops;
+use element_machine::{ByElements, ElementMachine, Entry, Marks};
 use std::test::Fail;
 
 /// Accepts where each element of the first set is in the second.

@@ -2,8 +2,8 @@
 ghost use Rattle.std.specs.Prelude.{◌≡◌, ◌<◌, IfOk, IsTrue, All, length};
 
 use crate::samples::{ints, layout_of, problem, sets};
-use scope_words::{scope_bits, scope_places};
 use bit_layout::Layout;
+use scope_words::{scope_bits, scope_places};
 use set_meaning::{Kind, VarId};
 use std::alloc::{AllocError, Global};
 use std::test::Fail;

@@ -7,10 +7,10 @@ ghost use Rattle.bit_machine.specs.Rules.{most_bits};
 ghost use Rattle.linear_machine.specs.Sums.{IsSmall};
 
 use crate::samples::{bits, listed, word};
-use linear_machine::{Comparison, Linear};
 use bit_machine::build;
 use diagram_arena::{Ref, Stop};
 use diagram_ops::Ops;
+use linear_machine::{Comparison, Linear};
 use std::alloc::{AllocError, Global};
 use std::test::Fail;
 

@@ -7,7 +7,6 @@ ghost use Rattle.diagram_arena.specs.Arena.{table};
 ghost use Rattle.table_machine.specs.Marked.{marks_in};
 
 use crate::samples::{ints, layout_of, listed, problem, sets, word};
-use table_machine::TableMachine;
 use bit_layout::Layout;
 use bit_machine::build;
 use diagram_arena::{Ref, Stop};
@@ -16,6 +15,7 @@ use scope_words::scope_bits;
 use set_meaning::{Kind, VarId};
 use std::alloc::{AllocError, Global};
 use std::test::Fail;
+use table_machine::TableMachine;
 
 fn kinds(alloc: Global) -> Result<Vec<Kind>, AllocError>
     ensures five { IfOk result (λ kinds. length kinds.items ≡ 5) }

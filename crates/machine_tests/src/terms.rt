@@ -5,12 +5,12 @@ ghost use Rattle.diagram_arena.specs.Arena.{table};
 ghost use Rattle.linear_terms.specs.Terms.{AreTermsSmall};
 
 use crate::samples::{ints, layout_of, listed, problem, sets, word};
-use linear_terms::{LinearTerm, linear_over, scopes_have_the_bits_of_terms};
 use bit_layout::Layout;
 use bit_machine::build;
 use diagram_arena::{Ref, Stop};
 use diagram_ops::Ops;
 use linear_machine::Comparison;
+use linear_terms::{LinearTerm, linear_over, scopes_have_the_bits_of_terms};
 use scope_words::scope_bits;
 use set_meaning::{Kind, Problem, VarId};
 use std::alloc::{AllocError, Global};

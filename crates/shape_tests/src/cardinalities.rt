@@ -100,9 +100,15 @@ fn counts_the_elements_of_a_constant(rt: HostRuntime) -> Result<(), Fail> {
     let layout = layout_of(alloc, &p)?;
     let mut ops = Ops::new(alloc, 100, 1)?;
     let c = one_terms(alloc, Relation::SetCard, &[CONSTANT, TWO])?;
-    assert_eq!(rt; cardinality_diagram(alloc, &mut ops, &layout, &p, &c)?, Some(Ref::One));
+    assert_eq!(rt;
+        cardinality_diagram(alloc, &mut ops, &layout, &p, &c)?,
+        Some(Ref::One)
+    );
     let c = one_terms(alloc, Relation::SetCard, &[CONSTANT, NUMBER])?;
-    assert_eq!(rt; cardinality_diagram(alloc, &mut ops, &layout, &p, &c)?, Some(Ref::Zero));
+    assert_eq!(rt;
+        cardinality_diagram(alloc, &mut ops, &layout, &p, &c)?,
+        Some(Ref::Zero)
+    );
     Ok(())
 }
 

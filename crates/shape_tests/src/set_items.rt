@@ -66,7 +66,12 @@ fn has_the_item_at_the_index(rt: HostRuntime) -> Result<(), Fail> {
         // 5 cannot be in the set, and the index cannot be 4
         (Given::Variable(0), late.as_slice(), set, 0b0000000000000001),
         // at 1 and at 3 is the set of 1
-        (Given::Variable(0), again.as_slice(), one, 0b0000111100001111),
+        (
+            Given::Variable(0),
+            again.as_slice(),
+            one,
+            0b0000111100001111,
+        ),
         // item 2, whatever the index variable is
         (
             Given::Number(2),
