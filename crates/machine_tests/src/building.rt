@@ -223,24 +223,40 @@ fn reads_no_bits(rt: HostRuntime) -> Result<(), Fail> {
     Ok(())
 }
 
-/// The five nodes of 011, 101 and 110 fit five and not four. What is there is answered in a full arena, also
-/// after a refusal.
+/// The diagram of exactly two true bits.
+fn two_of(alloc: Global, ops: &mut Ops, bits: &[u32]) -> Result<Ref, Stop>
+    requires ascend { IsStrictlyIncreasing bits.now }
+    requires few { length bits.now ≤ most_bits }
+{
+    build(alloc, ops, &ExactlyTwo, bits)
+}
+
+/// The diagram of equal pairs of bits.
+fn pairs_of(alloc: Global, ops: &mut Ops, bits: &[u32]) -> Result<Ref, Stop>
+    requires ascend { IsStrictlyIncreasing bits.now }
+    requires few { length bits.now ≤ most_bits }
+{
+    build(alloc, ops, &EqualPairs, bits)
+}
+
+/// The five nodes of 011, 101 and 110 do not fit four.
 #[test]
 fn stops_where_the_arena_is_full(rt: HostRuntime) -> Result<(), Fail> {
     let bits = bits(rt.alloc(), 3)?;
     let mut small = Ops::new(rt.alloc(), 4, 1)?;
-    assert_eq!(rt;
-        build(rt.alloc(), &mut small, &ExactlyTwo, &bits),
-        Err(Stop::Full)
-    );
+    assert_eq!(rt; two_of(rt.alloc(), &mut small, &bits), Err(Stop::Full));
     assert_eq!(rt; small.pool().arena().len(), 4);
+    Ok(())
+}
+
+/// They fit five. What is there is answered in a full arena, also after a refusal.
+#[test]
+fn answers_what_is_there_in_a_full_arena(rt: HostRuntime) -> Result<(), Fail> {
+    let bits = bits(rt.alloc(), 3)?;
     let mut full = Ops::new(rt.alloc(), 5, 1)?;
-    let two = build(rt.alloc(), &mut full, &ExactlyTwo, &bits)?;
-    assert_eq!(rt;
-        build(rt.alloc(), &mut full, &EqualPairs, &bits),
-        Err(Stop::Full)
-    );
-    assert_eq!(rt; build(rt.alloc(), &mut full, &ExactlyTwo, &bits), Ok(two));
+    let two = two_of(rt.alloc(), &mut full, &bits)?;
+    assert_eq!(rt; pairs_of(rt.alloc(), &mut full, &bits), Err(Stop::Full));
+    assert_eq!(rt; two_of(rt.alloc(), &mut full, &bits), Ok(two));
     Ok(())
 }
 

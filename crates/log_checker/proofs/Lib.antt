@@ -1,0 +1,10 @@
+pub mod Verdicts
+pub mod Boxes
+pub mod Passing
+pub mod SideLaws
+pub mod Ascending
+pub mod ScopeLaws
+pub mod Taking
+pub mod Sames
+pub mod Fronts
+pub mod AnswerLaws

@@ -1,0 +1,5 @@
+pub mod States
+pub mod Words
+pub mod Shapes
+pub mod Body
+pub mod Truths
