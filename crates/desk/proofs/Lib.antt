@@ -1,3 +1,2 @@
 pub mod Moves
 pub mod SoFar
-pub mod Newlines

@@ -8,4 +8,3 @@ pub mod Requests
 pub mod Opened
 pub mod MemoryDesk
 pub mod RealDesk
-pub mod Lines

@@ -1,9 +1,7 @@
-// Whole texts, and where calls fail.
+// The helpers are generic, so that no test's proof carries what one desk tells.
 ghost use Rattle.std.specs.Prelude.{◌<◌, ◌^◌};
 
-use desk::{
-    Desk, DeskCall, Failed, MemoryDesk, ReadEnd, RealDesk, Slot, To, read_text, write_text,
-};
+use super::*;
 use std::alloc::{AllocError, Global};
 use std::test::Fail;
 use std::{env, fs};
