@@ -8,3 +8,4 @@ pub mod Requests
 pub mod Opened
 pub mod MemoryDesk
 pub mod RealDesk
+pub mod Lines

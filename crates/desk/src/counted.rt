@@ -23,6 +23,9 @@ impl<F> Counted<F> {
     }
 
     // Reads once, no more than the bound leaves. An error, or no room, is None.
+    //
+    // It is not inlined: clang then takes the count for more than 0, and a caller's test for the end of the file is lost.
+    #[inline(never)]
     pub fn read(&mut self, buf: &mut [u8]) -> Option<usize>
     where
         F: Read,

@@ -5,6 +5,7 @@
 mod counted;
 mod faults;
 mod files;
+mod lines;
 mod memory_desk;
 mod opened;
 mod outside;
@@ -14,11 +15,9 @@ mod requests;
 mod steps;
 mod texts;
 
+pub use lines::{LineEnd, Lines};
 pub use memory_desk::MemoryDesk;
 pub use outside::{Asked, Desk, Failed, Slot, To};
 pub use plan::DeskCall;
 pub use real_desk::RealDesk;
 pub use texts::{ReadEnd, read_text, write_text};
-
-#[cfg(test)]
-mod tests;

@@ -1,7 +1,9 @@
-// The helpers are generic, so that no test's proof carries what one desk tells.
+// Whole texts, and where calls fail.
 ghost use Rattle.std.specs.Prelude.{◌<◌, ◌^◌};
 
-use super::*;
+use desk::{
+    Desk, DeskCall, Failed, MemoryDesk, ReadEnd, RealDesk, Slot, To, read_text, write_text,
+};
 use std::alloc::{AllocError, Global};
 use std::test::Fail;
 use std::{env, fs};
