@@ -1,13 +1,14 @@
 -- Pins that are spent one after another.
-use Rattle.std.proofs.Common.{◌≡◌, ℕ, zero, suc, ◌+◌, ◌<◌, ◌≤◌, Bool, List, [], ◌∷◌, ◌++◌, length, get_or, Some, refl, ap, ◌∙◌, subst, eq-eqb, arith}
+use Rattle.std.proofs.Common.{◌≡◌, ℕ, zero, suc, ◌+◌, ◌-◌, ◌<◌, ◌≤◌, Bool, List, [], ◌∷◌, ◌++◌, length, length-append, get_or, Some, refl, ap, ◌∙◌, subst, eq-eqb, arith}
 use Rattle.std.specs.Prelude.{if◌then◌else◌, slice_get, slice_set}
 use Rattle.diagram_arena.specs.declared.nodes.NodeId.{NodeId}
 use Rattle.diagram_arena.specs.declared.nodes.Ref.{Ref}
 use Rattle.diagram_arena.specs.declared.nodes.Ref.TheVariants.{Zero, One, Node}
 use Rattle.node_reclaim.specs.Pool.{PoolState, pins_of, times, Pins, Unpins, IsPinned}
-use Rattle.node_reclaim.specs.Holders.{AreHeld}
+use Rattle.node_reclaim.specs.Holders.{Gains, AreHeld}
 use Rattle.pin_lists.specs.Units.{Moves}
 use Rattle.std.proofs.lemmas.Option.{get_or_from_slice_get}
+use Rattle.std.proofs.lemmas.List.{get_or_push, set_at}
 
 pub times-append : (i : NodeId) (rs qs : List Ref) → times i (rs ++ qs) ≡ times i rs + times i qs
 times-append i [] qs = omega arith
@@ -94,3 +95,41 @@ replaced old mid new rs n q r within at pins unpins i =
     let l = unpins.lost i in
     let t = subst (λ (x : Ref). times i (slice_set rs n r) + times i (x ∷ []) ≡ times i rs + times i (r ∷ [])) (get_or_from_slice_get rs n q q at) (times_replaced i rs n r q within) in
     omega (arith, g, l, t)
+
+-- ---- pins that go from one list to another
+
+pub taken_pinned : (s : PoolState) (rs : List Ref) (n : ℕ) (q : Ref) → n < length rs → slice_get rs n ≡ Some q → AreHeld s rs → IsPinned s q
+taken_pinned s rs n q within at held = subst (IsPinned s) (get_or_from_slice_get rs n q q at) (held_at s rs n q within held)
+
+pub taken_back : (old new : PoolState) (rs aside rest : List Ref) (n : ℕ) (q r : Ref) → n < length rs → slice_get rs n ≡ Some q → aside ≡ rest ++ r ∷ [] → Unpins old new (q ∷ [])
+    → Moves old new (rs ++ aside) (slice_set rs n r ++ rest)
+taken_back old new rs aside rest n q r within at was unpins i =
+    let l = unpins.lost i in
+    let t = subst (λ (x : Ref). times i (slice_set rs n r) + times i (x ∷ []) ≡ times i rs + times i (r ∷ [])) (get_or_from_slice_get rs n q q at) (times_replaced i rs n r q within) in
+    let before = times-append i rs aside in
+    let after = times-append i (slice_set rs n r) rest in
+    let all = ap (times i) was in
+    let parts = times-append i rest (r ∷ []) in
+    omega (arith, l, t, before, after, all, parts)
+
+pub put_aside : (old new : PoolState) (rs aside : List Ref) (n : ℕ) (r : Ref) → n < length rs → Gains old new (r ∷ [])
+    → Moves old new (rs ++ aside) (slice_set rs n r ++ (aside ++ get_or rs n Zero ∷ []))
+put_aside old new rs aside n r within gained i =
+    let g = gained i in
+    let t = times_replaced i rs n r Zero within in
+    let before = times-append i rs aside in
+    let after = times-append i (slice_set rs n r) (aside ++ get_or rs n Zero ∷ []) in
+    let parts = times-append i aside (get_or rs n Zero ∷ []) in
+    omega (arith, g, t, before, after, parts)
+
+last_place : (rs qs : List Ref) (r : Ref) (n : ℕ) → qs ≡ rs ++ r ∷ [] → n ≡ length qs → length rs ≡ n - 1
+last_place rs qs r n e long = let all = ap length e in let parts = length-append rs (r ∷ []) in omega (arith, long, all, parts)
+
+pub last_is : (rs qs : List Ref) (r d : Ref) (n : ℕ) → qs ≡ rs ++ r ∷ [] → n ≡ length qs → get_or qs (n - 1) d ≡ r
+last_is rs qs r d n e long = ap (λ xs. get_or xs (n - 1) d) e ∙ get_or_push rs r d (n - 1) (last_place rs qs r n e long)
+
+pub last_set : (rs qs : List Ref) (r q : Ref) (n : ℕ) → qs ≡ rs ++ r ∷ [] → n ≡ length qs → slice_set qs (n - 1) q ≡ rs ++ q ∷ []
+last_set rs qs r q n e long = ap (λ xs. slice_set xs (n - 1) q) e ∙ set_at rs r [] q (n - 1) (last_place rs qs r n e long)
+
+pub same_exchange : (ps rs qs ss : List Ref) (at to : ℕ) → ps ≡ rs → qs ≡ ss → slice_set qs to (get_or ps at Zero) ≡ slice_set ss to (get_or rs at Zero)
+same_exchange ps rs qs ss at to e f = ap (λ xs. slice_set qs to (get_or xs at Zero)) e ∙ ap (λ xs. slice_set xs to (get_or rs at Zero)) f

@@ -1,6 +1,6 @@
 -- What units of work leave of a pool, between which nodes may be reclaimed. Ids are used again, so nodes are told by their sets of words.
 -- This project's own.
-use Rattle.std.specs.Prelude.{◌≡◌, ◌⊎◌, ◌+◌, ◌<◌, List, ◌++◌}
+use Rattle.std.specs.Prelude.{◌≡◌, ℕ, ◌⊎◌, ◌+◌, ◌<◌, List, [], ◌∷◌, ◌++◌, slice_set}
 use Rattle.diagram_arena.specs.declared.nodes.NodeId.{NodeId}
 use Rattle.diagram_arena.specs.declared.nodes.Ref.{Ref}
 use Rattle.diagram_arena.specs.declared.nodes.Ref.TheVariants.{Node}
@@ -17,6 +17,12 @@ PinnedAreLive s = (i : NodeId) → 0 < pins_of s i → IsLive (table s.arena) (N
 -- the pins of each node changed as the list of what is held did
 abbrev pub Moves : PoolState → PoolState → List Ref → List Ref → Type 0
 Moves old new before after = (i : NodeId) → pins_of new i + times i before ≡ pins_of old i + times i after
+
+-- the last ref of the list `aside` stands at this place of the other list now
+pub record IsTakenBack (refs aside : List Ref) (now rest : List Ref) (at : ℕ) : Type 0 where
+  pub last : Ref
+  pub was : aside ≡ rest ++ last ∷ []
+  pub is : now ≡ slice_set refs at last
 
 -- what is pinned beside the list means what it meant
 abbrev pub KeepsHeld : PoolState → PoolState → List Ref → Type 0

@@ -3,7 +3,4 @@
 
 mod writer;
 
-pub use writer::LogWriter;
-
-#[cfg(test)]
-mod tests;
+pub use writer::{LogStop, LogWriter};
