@@ -1,0 +1,3 @@
+pub mod SetSamples
+pub mod TwoSides
+pub mod Lives
