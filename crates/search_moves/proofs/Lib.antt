@@ -1,0 +1,5 @@
+mod Turning
+mod Seeking
+mod Sets
+mod Starts
+mod Singles

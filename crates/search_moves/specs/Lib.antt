@@ -1,0 +1,3 @@
+pub mod Moves
+pub mod Scans
+pub mod Answers
