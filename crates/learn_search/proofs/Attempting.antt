@@ -21,7 +21,7 @@ use Rattle.exact_steps.specs.Domains.{family}
 use Rattle.exact_steps.specs.Parts.{NewAreWanted}
 use Rattle.propagators.specs.Compiled.{CompiledState, IsCompiled, IsConstraintAt}
 use Rattle.learn_search.specs.Nodes.{IsOfRoot}
-use Rattle.learn_search.specs.Rounds.{IsOnWay}
+use Rattle.learn_search.specs.Way.{IsOnWay}
 use Rattle.learn_search.proofs.Taking.{news}
 use Rattle.learn_search.proofs.Keeping.{framed}
 

@@ -1,5 +1,5 @@
 -- What stays of the domains and of the compiled problem while units are done.
-use Rattle.std.proofs.Common.{◌≡◌, ℕ, ◌+◌, ◌<◌, ◌≤◌, true, List, [], ◌∷◌, ◌++◌, Option, None, Some, refl, sym, ap, ◌∙◌, subst, append-nil, arith, Contains}
+use Rattle.std.proofs.Common.{◌≡◌, ℕ, ◌+◌, ◌<◌, ◌≤◌, Bool, true, List, [], ◌∷◌, ◌++◌, Option, None, Some, refl, sym, ap, ◌∙◌, subst, append-nil, arith, Contains}
 use Rattle.std.specs.Prelude.{slice_get}
 use Rattle.std.specs.Option.{option_map_or}
 use Rattle.std.proofs.Math.Path.{fun_ext}
@@ -25,7 +25,7 @@ use Rattle.propagators.specs.Compiled.{CompiledState, pinned_by, IsCompiled}
 use Rattle.propagators.proofs.Moving.{listed_at, compiled_same}
 use Rattle.learn_search.specs.declared.narrowing.Taken.{Taken}
 use Rattle.learn_search.specs.declared.narrowing.Taken.TheVariants as taken
-use Rattle.learn_search.specs.Rounds.{IsOnWay, left, IsUnchanged, IsQuietAt, IsTaken}
+use Rattle.learn_search.specs.Way.{IsOnWay, left, IsUnchanged, IsQuietAt, IsNarrowing, IsTaken}
 
 -- ---- domains that mean the same
 
@@ -49,7 +49,13 @@ way_same p l t u domains means way = record {
 -- what a step did is the same, told from an earlier table in which the domains mean the same
 pub taken_from : (p : Problem) (l : LayoutState) (s t u : Table) (c : ℕ) (old new : List Ref) (r : Taken) → family l t old ≡ family l s old → IsTaken p l t u c old new r → IsTaken p l s u c old new r
 taken_from p l s t u c old new taken.Quiet same h = (record { same = h.0.same; way = h.0.way; values = h.0.values ∙ same }, h.1)
-taken_from p l s t u c old new taken.Narrowed same h = (h.0, subst (λ f. left p l u new < total (problem_of p) f) same h.1)
+taken_from p l s t u c old new (taken.Narrowed kept) same h = record {
+  way = h.way;
+  fewer = subst (λ f. left p l u new < total (problem_of p) f) same h.fewer;
+  quiet = h.quiet;
+  live = h.live;
+  others = λ v none. h.others v none ∙ ap (λ (f : ℕ → Value → Bool). f v) same;
+}
 taken_from p l s t u c old new taken.Violated same h = h
 
 -- ---- units beside what is held

@@ -1,7 +1,9 @@
 pub mod Taking
 pub mod Keeping
 pub mod Attempting
-pub mod Rounding
+pub mod Settling
+pub mod Turning
+pub mod Stirring
 pub mod Sizes
 pub mod Starting
 pub mod Spending

@@ -36,7 +36,7 @@ use Rattle.exact_steps.proofs.Wanted.{words_depend, bits_of_one, family_at}
 use Rattle.value_bounds.specs.Bounds.{AreBoundsOf}
 use Rattle.problem_rules.specs.Posed.{problem_of}
 use Rattle.learn_search.specs.Roots.{AreWordsOfValues, IsSizeOf, IsRowOf, AreRowsOf}
-use Rattle.learn_search.specs.Rounds.{IsOnWay, IsQuietAt, IsRootFamily, IsRowAt, AreRowsAt}
+use Rattle.learn_search.specs.Way.{IsOnWay, IsQuietAt, IsRootFamily, IsRowAt, AreRowsAt}
 
 -- ---- the values at rising bits of the word that they spell
 

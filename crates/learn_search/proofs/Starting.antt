@@ -14,7 +14,7 @@ use Rattle.problem_rules.specs.Posed.{problem_of}
 use Rattle.problem_rules.proofs.Starting.{initial_family}
 use Rattle.propagators.specs.Compiled.{CompiledState, IsCompiled}
 use Rattle.propagators.proofs.Moving.{initial_domains}
-use Rattle.learn_search.specs.Rounds.{IsOnWay, IsFixed, IsRootFamily, AreRowsAt}
+use Rattle.learn_search.specs.Way.{IsOnWay, IsFixed, IsRootFamily, AreRowsAt}
 use Rattle.learn_search.specs.Roots.{AreRowsOf}
 use Rattle.learn_search.proofs.Sizes.{rows_are, not_refuted}
 

@@ -3,6 +3,8 @@ use Rattle.std.proofs.Common.{◌≡◌, ◌≢◌, ℕ, zero, suc, ◌<◌, ◌
 use Rattle.std.specs.Prelude.{Vec, slice_get, slice_set}
 use Rattle.std.specs.declared.alloc.Global.{Global}
 use Rattle.std.specs.List.{All, AllZip}
+use Rattle.std.specs.Option.{option_map_or}
+use Rattle.std.proofs.lemmas.Bool.{both_ways}
 use Rattle.std.proofs.lemmas.Option.{slice_get-get_or}
 use Rattle.std.proofs.lemmas.List.Elements.{All-contains, All-cons, Contains-get_or}
 use Rattle.set_meaning.specs.declared.kinds.Value.{Value}
@@ -24,17 +26,17 @@ use Rattle.search_rules.specs.Problem.Steps.{next}
 use Rattle.search_rules.specs.Trail.{IsPart}
 use Rattle.search_rules.specs.Measure.{size_in, sum_to, total}
 use Rattle.search_rules.proofs.FamilyLemmas.{put-same}
-use Rattle.search_rules.proofs.StepLemmas.{narrowed_is_part, extends_narrowed, extends_before, violated_root, steps_smaller}
+use Rattle.search_rules.proofs.StepLemmas.{extends_in, narrowed_is_part, extends_narrowed, extends_before, violated_root, steps_smaller}
 use Rattle.search_rules.proofs.MeasureLemmas.{size_strict, sum_strict, total_mono}
 use Rattle.exact_steps.specs.declared.steps.StepResult.{StepResult}
 use Rattle.exact_steps.specs.declared.steps.StepResult.TheVariants as step
-use Rattle.exact_steps.specs.Domains.{values_in, IsDomain, AreDomains, family}
-use Rattle.exact_steps.specs.Steps.{IsStepOf, IsSatisfiable, AllExtend, AreNarrowed, IsViolated}
+use Rattle.exact_steps.specs.Domains.{variable, values_in, IsDomain, AreDomains, family}
+use Rattle.exact_steps.specs.Steps.{IsStepOf, IsSatisfiable, AllExtend, AreNarrowed, IsViolated, narrowed_in}
 use Rattle.exact_steps.specs.Rules.{IsConstraintOf}
 use Rattle.exact_steps.specs.Parts.{NewAreWanted}
 use Rattle.node_reclaim.specs.Growth.{NewAre}
-use Rattle.exact_steps.proofs.Wanted.{domains_grow}
-use Rattle.exact_steps.proofs.Constraints.{family_grows, rule_violated, rule_narrowed, rule_satisfiable, rule_left}
+use Rattle.exact_steps.proofs.Wanted.{domains_grow, family_at}
+use Rattle.exact_steps.proofs.Constraints.{family_grows, rule_extends, rule_violated, rule_narrowed, rule_satisfiable, rule_left}
 use Rattle.exact_steps.proofs.Replacing.{domains_replaced, family_replaced}
 use Rattle.problem_rules.specs.Posed.{problem_of}
 use Rattle.problem_rules.proofs.Variables.{constraint_here}
@@ -44,7 +46,8 @@ use Rattle.propagators.proofs.Moving.{listed_at}
 use Rattle.learn_search.specs.declared.narrowing.Taken.TheVariants as taken
 use Rattle.learn_search.specs.Nodes.{IsOfRoot}
 use Rattle.learn_search.specs.Nodes.IsOfRoot.{of_step}
-use Rattle.learn_search.specs.Rounds.{IsOnWay, left, IsQuietAt, IsTaken, put_each}
+use Rattle.learn_search.specs.Way.{IsOnWay, left, IsQuietAt, IsNarrowing, IsTaken, put_each}
+use Rattle.learn_search.proofs.Settling.{support_stays, left_after, member_cases, put_each-others, put_each-at}
 
 -- ---- tables that grow
 
@@ -146,7 +149,7 @@ module _ (p : Problem) (l : LayoutState) (u : Table) (c : ℕ) where
 
 -- ---- the step of a compiled constraint
 
-zip_lengths : {A B : Type 0} (R : A → B → Type 0) (xs : List A) (ys : List B) → AllZip R xs ys → length xs ≡ length ys
+pub zip_lengths : {A B : Type 0} (R : A → B → Type 0) (xs : List A) (ys : List B) → AllZip R xs ys → length xs ≡ length ys
 zip_lengths R [] [] h = refl
 zip_lengths R [] (y ∷ ys) h = absurd h
 zip_lengths R (x ∷ xs) [] h = absurd h
@@ -230,6 +233,42 @@ module _ (p : Problem) (l : LayoutState) (t u : Table) (k : CompiledState) (c : 
       put_falls p l u c known v r kept domains is.kinds way_now (entries ((v, r) ∷ kept) are) (subst (λ f. IsPart (values_in l u v r) (f v.0)) (sym same) n.part) in
       subst (λ f. left p l u (put_each ((v, r) ∷ kept) domains) < total (problem_of p) f) same less
 
+  unchanged : (kept : List (VarId × Ref)) (v : ℕ) → (Contains (narrowed_in kept) (variable v) → ⊥) → family l u (put_each kept domains) v ≡ family l t domains v
+  unchanged kept v none = ap (λ o. λ x. option_map_or (λ r. values_in l u (variable v) r x) o true) (put_each-others kept domains v none) ∙ ap (λ (f : ℕ → Value → Bool). f v) same
+
+  -- what was put for a variable of the list
+  was_put : (kept : List (VarId × Ref)) → AreNarrowed l e.scope (Holds con) (family l t domains) u kept → (v : ℕ) → Contains (narrowed_in kept) (variable v)
+      → rules.IsNarrowed (problem_of p) c (family l t domains) v (family l u (put_each kept domains) v)
+  was_put kept are v there =
+      let at = put_each-at kept domains (variable v) (λ w r h. subst (λ n. w.0 < n) (sym way.domains_are.long) (entry_of w r kept are h).2) there in
+      subst (rules.IsNarrowed (problem_of p) c (family l t domains) v) (sym (family_at l u (put_each kept domains) (variable v) at.0 at.1)) (entry_of (variable v) at.0 kept are at.2).0
+
+  -- the domains that are put are those of the exact step
+  exact : (kept : List (VarId × Ref)) → AreNarrowed l e.scope (Holds con) (family l t domains) u kept → rules.IsExactStep (problem_of p) c (family l t domains) (family l u (put_each kept domains))
+  exact kept are = record {
+    sound = λ v x scoped has. elim (member_cases (narrowed_in kept) (variable v)) [
+      | inl there ↦ (was_put kept are v there).sound x has
+      | inr none ↦ rule_extends (problem_of p) c l e.scope (Holds con) t t e.diagram domains ok e.entry_is.known e.entry_is.diagram way.domains_are rule v x
+          (are.others (variable v) ((rule.scoped v).0 scoped) none x (subst (λ (s : Value → Bool). s x ≡ true) (unchanged kept v none) has))
+    ];
+    whole = λ v x extends. elim (member_cases (narrowed_in kept) (variable v)) [
+      | inl there ↦ (was_put kept are v there).whole x extends
+      | inr none ↦ subst (λ (s : Value → Bool). s x ≡ true) (sym (unchanged kept v none)) (extends_in extends)
+    ];
+    others = λ v out. unchanged kept v (λ there. both_ways ((problem_of p).scope c v) out (was_put kept are v there).scoped);
+  }
+
+  -- the constraint itself is quiet then
+  settles : (kept : List (VarId × Ref)) → IsSatisfiable l e.scope (Holds con) (family l t domains) → AreNarrowed l e.scope (Holds con) (family l t domains) u kept → IsQuietAt p (family l u (put_each kept domains)) c
+  settles kept satisfiable are =
+      let some = rule_satisfiable (problem_of p) c l e.scope (Holds con) t t e.diagram domains ok e.entry_is.known e.entry_is.diagram way.domains_are rule satisfiable in
+      record {
+        stays = left_after (problem_of p) c (family l t domains) (family l u (put_each kept domains)) (exact kept are);
+        values = some.0;
+        inside = support_stays (problem_of p) c (family l t domains) (family l u (put_each kept domains)) (exact kept are) some.0 some.1 some.2;
+        holds = some.2;
+      }
+
   -- each entry names a variable with a domain
   pub within : (kept : List (VarId × Ref)) → AreNarrowed l e.scope (Holds con) (family l t domains) u kept → All (λ (x : VarId × Ref). x.0.0 < length domains) kept
   within kept are = in_all kept (entries kept are)
@@ -266,16 +305,21 @@ module _ (p : Problem) (l : LayoutState) (t u : Table) (k : CompiledState) (c : 
   pub kept_within : (kept : Vec (VarId × Ref) Global) → o ≡ step.Narrowed kept → All (λ (x : VarId × Ref). x.0.0 < length domains) kept.items
   kept_within kept as_is = within p l t u k c.0 domains ok known is way grows e kept.items (told_as (step.Narrowed kept) as_is).2
 
-  pub taken_narrowed : (kept : Vec (VarId × Ref) Global) (new : List Ref) → o ≡ step.Narrowed kept → new ≡ put_each kept.items domains → IsTaken p l t u c.0 domains new taken.Narrowed
-  taken_narrowed kept new as_is put_is =
-      let h = told_as (step.Narrowed kept) as_is in
-      subst (λ new. IsTaken p l t u c.0 domains new taken.Narrowed) (sym put_is)
-      (on_way p l t u k c.0 domains ok known is way grows e kept.items h.2, fewer p l t u k c.0 domains ok known is way grows e kept.items h.1 h.2)
-
   pub kept_live : (kept : Vec (VarId × Ref) Global) → o ≡ step.Narrowed kept → All (λ (x : VarId × Ref). IsLive u x.1) kept.items
   kept_live kept as_is i d within =
       let h = told_as (step.Narrowed kept) as_is in
       (h.2.each (get_or kept.items i d).0 (get_or kept.items i d).1 (Contains-get_or kept.items i d within)).domain.diagram.live
+
+  pub taken_narrowed : (kept : Vec (VarId × Ref) Global) (new : List Ref) → o ≡ step.Narrowed kept → new ≡ put_each kept.items domains → IsTaken p l t u c.0 domains new (taken.Narrowed kept)
+  taken_narrowed kept new as_is put_is =
+      let h = told_as (step.Narrowed kept) as_is in
+      subst (λ new. IsNarrowing p l t u c.0 domains new kept.items) (sym put_is) (record {
+        way = on_way p l t u k c.0 domains ok known is way grows e kept.items h.2;
+        fewer = fewer p l t u k c.0 domains ok known is way grows e kept.items h.1 h.2;
+        quiet = settles p l t u k c.0 domains ok known is way grows e kept.items h.0 h.2;
+        live = kept_live kept as_is;
+        others = unchanged p l t u k c.0 domains ok known is way grows e kept.items;
+      })
 
 -- each new node of a step is wanted for it, whatever came of it
 pub news : (p : Problem) (l : LayoutState) (t u : Table) (k : CompiledState) (c : ConId) (domains lent : List Ref) → IsLayout l → c.0 < length p.constraints → IsCompiled l p t k → IsOnWay p l t domains → lent ≡ domains

@@ -2,4 +2,4 @@ pub mod Roots
 pub mod Nodes
 pub mod Searches
 pub mod Pinned
-pub mod Rounds
+pub mod Way

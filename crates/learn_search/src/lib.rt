@@ -2,6 +2,7 @@
 //! every constraint leaves as it is (domain consistency; Hawkins, Lagoon and Stuckey, JAIR 2005).
 #![tactic(auto)]
 
+mod agenda;
 mod narrowing;
 mod root;
 mod rows;

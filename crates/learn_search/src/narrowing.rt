@@ -1,5 +1,6 @@
-//! From the initial domains to the root family: all constraints are taken again after each change. The domains stay pinned, and each step is a
-//! unit: where it finds no room, what no pin reaches is reclaimed, and it is tried once more.
+//! From the initial domains to the root family: constraints are taken from a queue, and each one again after a variable of its scope was
+//! narrowed by another. The domains stay pinned, and each step is a unit: where it finds no room, what no pin reaches is reclaimed, and it is
+//! tried once more.
 ghost use Rattle.std.specs.Prelude.{◌≡◌, ◌<◌, ◌++◌, [], Err, IfOk, OnOk, length, All};
 ghost use Rattle.diagram_arena.specs.Table.{IsLive};
 ghost use Rattle.diagram_arena.specs.Arena.{table};
@@ -10,9 +11,12 @@ ghost use Rattle.problem_limits.specs.Limits.{KeepsLimits};
 ghost use Rattle.propagators.specs.Compiled.{pinned_by, IsCompiled};
 ghost use Rattle.learn_search.specs.Nodes.{IsOfRoot};
 ghost use Rattle.learn_search.specs.Pinned.{AreDomainsOfFirst};
-ghost use Rattle.learn_search.specs.Rounds.{IsOnWay, IsTaken, IsRound, IsFixed, put_each};
+ghost use Rattle.exact_steps.specs.Domains.{family};
+ghost use Rattle.learn_search.specs.Way.{IsOnWay, IsTaken, IsFixed, IsQueueOf, AreSettledBut, IsTurn, put_each};
 
+use crate::agenda::{flag_each, measure_each, queue_of, sizes_of};
 use bit_layout::Layout;
+use constraint_queue::ConstraintQueue;
 use diagram_arena::{Ref, Stop};
 use diagram_ops::Ops;
 use pin_lists::{PinList, collect};
@@ -20,14 +24,14 @@ use propagators::{Compiled, StepResult, step};
 use set_meaning::{ConId, Problem, VarId};
 use std::alloc::{AllocError, Global};
 
-/// What steps did to the domains.
-#[derive(Clone, Copy)]
+/// What a step did to the domains.
+#[derive(Drop)]
 pub(crate) enum Taken {
-    /// Nothing: each value extends, and some values satisfy each constraint that was taken.
+    /// Nothing: each value extends, and some values satisfy the constraint.
     Quiet,
-    /// They took values.
-    Narrowed,
-    /// They found a constraint that no values in the domains satisfy.
+    /// It took values of these variables, which have these domains now.
+    Narrowed(Vec<(VarId, Ref)>),
+    /// No values in the domains satisfy the constraint.
     Violated,
 }
 
@@ -51,55 +55,53 @@ pub(crate) fn narrow(
 {
     // What holds of every pool.
     let _ = ops.pool();
-    'rounds: loop {
-        match round(alloc, ops, layout, p, compiled, domains)? {
-            Taken::Quiet => return Ok(true),
-            Taken::Narrowed => {}
-            Taken::Violated => return Ok(false),
+    let mut sizes = sizes_of(alloc, ops, layout, domains.refs())?;
+    let mut queue = queue_of(alloc, ops, layout, p, compiled)?;
+    queue.flag_all(sizes.as_slice());
+    'steps: while let Some(c) = queue.next() {
+        if !turn(
+            alloc, ops, layout, p, compiled, c, domains, &mut queue, &mut sizes,
+        )? {
+            return Ok(false);
         }
     }
+    Ok(true)
 }
 
-/// Takes the step of each constraint, in file order.
-fn round(
+/// Takes the step of a constraint that has lost its flag, and flags the constraints that may narrow more after it. False says that the root is
+/// refuted.
+fn turn(
     alloc: Global,
     ops: &mut Ops,
     layout: &Layout,
     p: &Problem,
     compiled: &Compiled,
+    c: ConId,
     domains: &mut PinList,
-) -> Result<Taken, Stop>
-    requires limits { KeepsLimits p.now }
+    queue: &mut ConstraintQueue,
+    sizes: &mut Vec<u64>,
+) -> Result<bool, Stop>
+    requires known { c.0 < length p.now.constraints }
     requires compiled { IsCompiled layout.now p.now (table ops.old.arena) compiled.now }
     requires way { IsOnWay p.now layout.now (table ops.old.arena) domains.old }
     requires held { AreHeld ops.old (pinned_by compiled.now ++ domains.old) }
-    ensures round { IfOk result (IsRound p.now layout.now (table ops.old.arena) (table ops.new.arena) domains.old domains.new) }
+    requires queue { IsQueueOf p.now compiled.now queue.old }
+    requires settled { AreSettledBut p.now (family layout.now (table ops.old.arena) domains.old) queue.old c.0 }
+    ensures turn { IfOk result
+        (IsTurn p.now layout.now (table ops.old.arena) (table ops.new.arena) compiled.now domains.old domains.new queue.old queue.new) }
     ensures left { UnitsLeave (IsOfRoot p.now) ops.old ops.new domains.old domains.new }
     ensures full { result ≡ Err Stop.Full → IsFull ops.new }
     ensures stopped { result ≡ Err Stop.Full → AreDomainsOfFirst layout.now (table ops.new.arena) domains.new }
 {
-    // What holds of every pool.
-    let _ = ops.pool();
-    let mut changed = false;
-    for c in 0..count(p) {
-        match take(alloc, ops, layout, p, compiled, ConId(c), domains)? {
-            Taken::Quiet => {}
-            Taken::Narrowed => changed = true,
-            Taken::Violated => return Ok(Taken::Violated),
+    match take(alloc, ops, layout, p, compiled, c, domains)? {
+        Taken::Quiet => Ok(true),
+        Taken::Narrowed(kept) => {
+            measure_each(alloc, ops, kept.as_slice(), sizes)?;
+            flag_each(queue, kept.as_slice(), c, sizes.as_slice());
+            Ok(true)
         }
+        Taken::Violated => Ok(false),
     }
-    if changed {
-        return Ok(Taken::Narrowed);
-    }
-    Ok(Taken::Quiet)
-}
-
-/// How many constraints there are.
-fn count(p: &Problem) -> u32
-    requires { KeepsLimits p.now }
-    ensures { result ≡ length p.now.constraints }
-{
-    p.constraints.items().len() as u32
 }
 
 /// Takes the step of one constraint.
@@ -159,7 +161,7 @@ fn attempt(
         StepResult::Same => Ok(Taken::Quiet),
         StepResult::Narrowed(kept) => {
             put(ops, domains, kept.as_slice())?;
-            Ok(Taken::Narrowed)
+            Ok(Taken::Narrowed(kept))
         }
         StepResult::Empty => Ok(Taken::Violated),
     }

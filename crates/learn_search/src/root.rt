@@ -1,11 +1,10 @@
 //! The root family of a problem, from its text to its rows.
-ghost use Rattle.std.specs.Prelude.{◌≡◌, ◌++◌, [], Err, Some, IfOk, IfErr, OnOk, All};
-ghost use Rattle.diagram_arena.specs.Table.{IsLive};
+ghost use Rattle.std.specs.Prelude.{◌≡◌, ◌++◌, [], Err, Some, IfOk, IfErr, OnOk};
 ghost use Rattle.diagram_arena.specs.Arena.{table};
 ghost use Rattle.node_reclaim.specs.Pool.{Unpins};
 ghost use Rattle.node_reclaim.specs.Growth.{IsFull};
 ghost use Rattle.node_reclaim.specs.Holders.{AreHeld, KeepsPins};
-ghost use Rattle.pin_lists.specs.Units.{Moves, UnitsLeave};
+ghost use Rattle.pin_lists.specs.Units.{UnitsLeave};
 ghost use Rattle.problem_limits.specs.Limits.{KeepsLimits};
 ghost use Rattle.propagators.specs.Compiled.{pinned_by, IsCompiled};
 ghost use Rattle.learn_search.specs.Nodes.{IsOfRoot, RootLeaves};
@@ -16,12 +15,12 @@ use crate::narrowing::narrow;
 use crate::rows::rows;
 use crate::search::RootFound;
 use bit_layout::Layout;
-use diagram_arena::{Ref, Stop};
+use diagram_arena::Stop;
 use diagram_ops::Ops;
 use pin_lists::PinList;
 use propagators::Compiled;
 use set_meaning::Problem;
-use std::alloc::{AllocError, Global};
+use std::alloc::Global;
 
 /// What is found at the root of the problem, which is compiled first. Pins are taken back, but where there was no room for a node:
 /// then they stay, those of the domains on the way too.
@@ -99,22 +98,9 @@ fn found(
     // What holds of every layout and every pool.
     layout.obeys_order();
     let _ = ops.pool();
-    hold_all(ops, domains, compiled.start())?;
+    domains.hold_all(ops, compiled.start())?;
     if !narrow(alloc, ops, layout, p, compiled, domains)? {
         return Ok(RootFound::Unsatisfiable);
     }
     Ok(RootFound::Family(rows(alloc, ops, layout, p, domains.refs())?))
-}
-
-/// Pins each of the refs, in order.
-fn hold_all(ops: &mut Ops, domains: &mut PinList, refs: &[Ref]) -> Result<(), AllocError>
-    requires { All (IsLive (table ops.old.arena)) refs.now }
-    ensures only { ops.new ≡ record ops.old { counts = ops.new.counts } }
-    ensures listed { OnOk result (domains.new ≡ domains.old ++ refs.now) }
-    ensures moved { Moves ops.old ops.new domains.old domains.new }
-{
-    for r in refs {
-        domains.hold(ops, *r)?;
-    }
-    Ok(())
 }

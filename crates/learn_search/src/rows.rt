@@ -3,7 +3,7 @@ ghost use Rattle.std.specs.Prelude.{◌≡◌, ◌<◌, IfOk, length};
 ghost use Rattle.diagram_arena.specs.Arena.{table};
 ghost use Rattle.problem_limits.specs.Limits.{KeepsLimits};
 ghost use Rattle.exact_steps.specs.Domains.{IsDomain, AreDomains};
-ghost use Rattle.learn_search.specs.Rounds.{IsRowAt, AreRowsAt};
+ghost use Rattle.learn_search.specs.Way.{IsRowAt, AreRowsAt};
 
 use bit_layout::Layout;
 use diagram_arena::Ref;

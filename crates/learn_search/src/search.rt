@@ -1,5 +1,5 @@
 //! A search: its problem, its nodes, and how it ended.
-ghost use Rattle.std.specs.Prelude.{◌≡◌, ◌↔◌, ◌<◌, ◌≤◌, List, Err, Some, None, IsSome, IfSome, IfOk, IfErr, OnOk};
+ghost use Rattle.std.specs.Prelude.{◌≡◌, ◌↔◌, ◌<◌, ◌≤◌, List, Err, Some, None, IsSome, IfSome, IfOk, IfErr, OnOk, IsFalse};
 ghost use Rattle.std.specs.FinMap as map;
 ghost use Rattle.set_meaning.specs.declared.problems.Problem.{Problem as AnyProblem};
 ghost use Rattle.diagram_arena.specs.Arena.{most_nodes};
@@ -113,7 +113,7 @@ impl Search {
         requires some { 0 < nodes }
         requires most { nodes ≤ most_nodes }
         requires conflicts { IfSome conflicts (λ n. 0 < n) }
-        requires off { log ≡ LogWriter.Off }
+        requires off { IsFalse log.on }
         ensures problem { IfOk result (λ s. s.problem ≡ p) }
         ensures empty { IfOk result (λ s. s.pool.arena ≡ record { nodes = map.empty; limit = nodes }) }
         ensures unpinned { IfOk result (λ s. s.pool.counts ≡ map.empty) }
@@ -143,10 +143,11 @@ impl Search {
     /// The root family: for each variable, in file order, the bounds of its values there and the number of nodes of their diagram. Or
     /// that the root is refuted. It may be asked again, and then compiles again.
     ///
-    /// All constraints are taken again after each round that changed something, so there are at most as many rounds as there are initial values
-    /// of all variables, and one more. The initial domains, the constraints and every domain on the way are diagrams; over k bits a diagram has
-    /// fewer than 2^k nodes. A unit is one initial domain, one constraint's compilation or one step. Where a unit finds no room, the nodes
-    /// that no pin reaches are freed and the unit is tried once more; a second refusal is Nodes. Each node that is made is wanted for a unit.
+    /// A constraint is taken at first, and again after another one has taken values of a variable of its scope. So it is taken at most once
+    /// for each initial value of its variables, and once more. The initial domains, the constraints and every domain on the way are
+    /// diagrams; over k bits a diagram has fewer than 2^k nodes. A unit is one initial domain, one constraint's compilation or one step.
+    /// Where a unit finds no room, the nodes that no pin reaches are freed and the unit is tried once more; a second refusal is Nodes. Each
+    /// node that is made is wanted for a unit.
     ///
     /// After Ok and Memory each node has as many pins as before. After Nodes what was compiled and the domains on the way stay pinned, so that
     /// `stop` can say what the nodes were for. Conflicts do not count, and the desk is not called, until the search reads them.

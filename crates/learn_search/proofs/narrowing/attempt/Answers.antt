@@ -7,7 +7,7 @@ use Rattle.diagram_arena.specs.Arena.{table}
 use Rattle.node_reclaim.specs.Pool.{PoolState}
 use Rattle.propagators.specs.Compiled.{pinned_by}
 use Rattle.learn_search.specs.declared.narrowing.Taken.TheVariants as taken
-use Rattle.learn_search.specs.Rounds.{IsTaken, put_each}
+use Rattle.learn_search.specs.Way.{IsTaken, put_each}
 use Rattle.learn_search.proofs.Taking.{scopes_long, taken_quiet, taken_violated, taken_narrowed, kept_within, kept_live}
 use Rattle.learn_search.proofs.Attempting.{held_of_step, step_leaves, step_keeps, put_leaves}
 use Rattle.learn_search.proofs.narrowing.attempt.Goals as goal
@@ -46,7 +46,7 @@ returns-in_ok-put-in-Narrowed-clause-left c = put_leaves c.args.p.now c.args.lay
 
 pub returns-in_ok-put-in-Narrowed-clause-taken : goal.returns-in_ok-put-in-Narrowed-clause-taken
 returns-in_ok-put-in-Narrowed-clause-taken c =
-    subst (λ (s : PoolState). IsTaken c.args.p.now c.args.layout.now (table c.args.ops.now.arena) (table s.arena) c.args.c.0 c.args.domains.now c.put.new.domains taken.Narrowed) (sym c.put.ensures.only)
+    subst (λ (s : PoolState). IsTaken c.args.p.now c.args.layout.now (table c.args.ops.now.arena) (table s.arena) c.args.c.0 c.args.domains.now c.put.new.domains (taken.Narrowed c.in-Narrowed.kept)) (sym c.put.ensures.only)
     (taken_narrowed c.args.p.now c.args.layout.now (table c.args.ops.now.arena) (table c.step.new.ops.arena) c.args.compiled.now c.args.c c.args.domains.now c.obeys_order.ensures c.requires.known c.requires.compiled c.requires.way c.step.ensures.stays.grows c.in_ok-step.field-0 c.refs.result.now c.refs.ensures c.in_ok-step.ensures.answer c.in-Narrowed.kept c.put.new.domains c.in-Narrowed.is (c.in_ok-put-in-Narrowed.ensures.put ∙ ap (λ kept. put_each kept c.args.domains.now) c.as_slice.ensures.value))
 
 pub returns-in-Empty-clause-taken : goal.returns-in-Empty-clause-taken

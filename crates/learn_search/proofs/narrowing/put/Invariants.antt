@@ -1,6 +1,6 @@
 use Rattle.std.proofs.Common.{◌≡◌, length, drop}
 use Rattle.pin_lists.specs.Units.{Moves}
-use Rattle.learn_search.specs.Rounds.{put_each}
+use Rattle.learn_search.specs.Way.{put_each}
 use Rattle.learn_search.proofs.narrowing.put.Given as goal
 
 abbrev pub invariant-loop-v : goal.invariant-loop-v

@@ -7,7 +7,7 @@ use Rattle.node_reclaim.specs.Holders.{AreHeld}
 use Rattle.pin_lists.proofs.Leaving.{units_begun}
 use Rattle.propagators.specs.Compiled.{pinned_by, IsCompiled}
 use Rattle.learn_search.specs.Nodes.{IsOfRoot}
-use Rattle.learn_search.specs.Rounds.{IsOnWay, IsTaken}
+use Rattle.learn_search.specs.Way.{IsOnWay, IsTaken}
 use Rattle.learn_search.proofs.Keeping.{taken_from, compiled_again, way_again, family_again, way_stopped, after_again}
 use Rattle.learn_search.proofs.narrowing.take.Goals as goal
 

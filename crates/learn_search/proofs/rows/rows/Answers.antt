@@ -3,7 +3,7 @@ use Rattle.std.proofs.lemmas.Option.{slice_get-get_or}
 use Rattle.bit_layout.proofs.Making.{few_kinds}
 use Rattle.diagram_arena.specs.declared.nodes.Ref.TheVariants.{Zero}
 use Rattle.diagram_arena.specs.Arena.{table}
-use Rattle.learn_search.specs.Rounds.{AreRowsAt}
+use Rattle.learn_search.specs.Way.{AreRowsAt}
 use Rattle.learn_search.proofs.Sizes.{more_rows}
 use Rattle.learn_search.proofs.rows.rows.Goals as goal
 

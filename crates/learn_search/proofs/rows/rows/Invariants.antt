@@ -1,5 +1,5 @@
 use Rattle.diagram_arena.specs.Arena.{table}
-use Rattle.learn_search.specs.Rounds.{AreRowsAt}
+use Rattle.learn_search.specs.Way.{AreRowsAt}
 use Rattle.learn_search.proofs.rows.rows.Given as goal
 
 abbrev pub invariant-loop-v : goal.invariant-loop-v

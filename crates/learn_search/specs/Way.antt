@@ -1,17 +1,20 @@
--- The way to the root family: domains that steps lead to, and what a round of steps does to them. Words of private helpers.
-use Rattle.std.specs.Prelude.{◌≡◌, ℕ, ◌<◌, Bool, true, false, List, [], ◌∷◌, Some, slice_get, slice_set, length}
+-- The way to the root family: domains that steps lead to, and the queue of constraints on the way. Words of private helpers.
+use Rattle.std.specs.Prelude.{◌≡◌, ◌≢◌, ℕ, ◌+◌, ◌*◌, ◌<◌, ◌≤◌, Bool, true, false, List, [], ◌∷◌, Some, slice_get, slice_set, length, All, Contains}
 use Rattle.set_meaning.specs.declared.kinds.Value.{Value}
 use Rattle.set_meaning.specs.declared.problems.VarId.{VarId}
 use Rattle.set_meaning.specs.declared.problems.Bounds.{Bounds}
 use Rattle.set_meaning.specs.declared.problems.Problem.{Problem}
 use Rattle.bit_layout.specs.Order.{LayoutState}
 use Rattle.diagram_arena.specs.declared.nodes.Ref.{Ref}
-use Rattle.diagram_arena.specs.Table.{Table}
+use Rattle.diagram_arena.specs.Table.{Table, IsLive}
 use Rattle.diagram_view.specs.Residuals.{CountsResiduals}
 use Rattle.search_rules.specs.Problem.{Steps, IsLeft, IsRootRefuted}
 use Rattle.search_rules.specs.Measure.{total}
 use Rattle.exact_steps.specs.Domains.{variable, values_in, AreDomains, family}
+use Rattle.exact_steps.specs.Steps.{narrowed_in}
 use Rattle.value_bounds.specs.Bounds.{AreBoundsOf}
+use Rattle.propagators.specs.Compiled.{CompiledState}
+use Rattle.constraint_queue.specs.Queue.{QueueState, HasFlag, Reads, flag_count}
 use Rattle.problem_rules.specs.Posed.{problem_of}
 use Rattle.learn_search.specs.declared.narrowing.Taken.{Taken}
 use Rattle.learn_search.specs.declared.narrowing.Taken.TheVariants as taken
@@ -48,22 +51,57 @@ pub record IsUnchanged (p : Problem) (l : LayoutState) (t u : Table) (old new : 
   pub way : IsOnWay p l u new
   pub values : family l u new ≡ family l t old
 
+-- the step narrowed the variables of the list and no others, and leaves the domains that it led to as they are
+pub record IsNarrowing (p : Problem) (l : LayoutState) (t u : Table) (c : ℕ) (old new : List Ref) (kept : List (VarId × Ref)) : Type 0 where
+  pub way : IsOnWay p l u new
+  pub fewer : left p l u new < left p l t old
+  pub quiet : IsQuietAt p (family l u new) c
+  pub live : All (λ e. IsLive u e.1) kept
+  pub others : (v : ℕ) → (Contains (narrowed_in kept) (variable v) → ⊥) → family l u new v ≡ family l t old v
+
 -- what the step of constraint number c does
 abbrev pub IsTaken : Problem → LayoutState → Table → Table → ℕ → List Ref → List Ref → Taken → Type 0
 IsTaken p l t u c old new taken.Quiet = IsUnchanged p l t u old new × IsQuietAt p (family l u new) c
-IsTaken p l t u c old new taken.Narrowed = IsOnWay p l u new × (left p l u new < left p l t old)
+IsTaken p l t u c old new (taken.Narrowed kept) = IsNarrowing p l t u c old new kept.items
 IsTaken p l t u c old new taken.Violated = IsRootRefuted (problem_of p)
 
--- what the steps of the first constraints, so many, did: nothing, and each is quiet; or they took values
-abbrev pub IsSoFar : Problem → LayoutState → Table → Table → ℕ → List Ref → List Ref → Bool → Type 0
-IsSoFar p l t u count old new false = IsUnchanged p l t u old new × AreQuiet p (family l u new) count
-IsSoFar p l t u count old new true = IsOnWay p l u new × (left p l u new < left p l t old)
+-- ---- the queue
 
--- what the steps of all constraints do
-abbrev pub IsRound : Problem → LayoutState → Table → Table → List Ref → List Ref → Taken → Type 0
-IsRound p l t u old new taken.Quiet = IsSoFar p l t u (length p.constraints) old new false
-IsRound p l t u old new taken.Narrowed = IsSoFar p l t u (length p.constraints) old new true
-IsRound p l t u old new taken.Violated = IsRootRefuted (problem_of p)
+-- the queue is one of the compiled constraints, with a flag for each
+pub record IsQueueOf (p : Problem) (k : CompiledState) (q : QueueState) : Type 0 where
+  pub scopes : q.scopes ≡ k.scopes
+  pub long : length q.flags ≡ length p.constraints
+
+-- each constraint without a flag, but for number c, is quiet
+abbrev pub AreSettledBut : Problem → (ℕ → Value → Bool) → QueueState → ℕ → Type 0
+AreSettledBut p f q c = (d : ℕ) → d < length p.constraints → d ≢ c → (HasFlag q d → ⊥) → IsQuietAt p f d
+
+-- each constraint without a flag is quiet
+abbrev pub AreSettled : Problem → (ℕ → Value → Bool) → QueueState → Type 0
+AreSettled p f q = (d : ℕ) → d < length p.constraints → (HasFlag q d → ⊥) → IsQuietAt p f d
+
+-- the constraints that read a variable of the list have flags, but for number c, and those that had one still have it
+pub record AreStirred (old new : QueueState) (c : ℕ) (kept : List (VarId × Ref)) : Type 0 where
+  pub scopes : new.scopes ≡ old.scopes
+  pub long : length new.flags ≡ length old.flags
+  pub still : (d : ℕ) → HasFlag old d → HasFlag new d
+  pub readers : (v : VarId) (d : ℕ) → Contains (narrowed_in kept) v → Reads old d v → d ≢ c → HasFlag new d
+
+-- what is left to do: fewer values come first, then fewer flags
+abbrev pub work : Problem → LayoutState → Table → List Ref → QueueState → ℕ
+work p l t domains q = left p l t domains * (length p.constraints + 1) + flag_count q
+
+-- what the turn of a constraint leaves that has lost its flag: the domains on the way, every constraint without a flag quiet, and no more work
+pub record IsTurned (p : Problem) (l : LayoutState) (t u : Table) (k : CompiledState) (old new : List Ref) (before after : QueueState) : Type 0 where
+  pub way : IsOnWay p l u new
+  pub queue : IsQueueOf p k after
+  pub settled : AreSettled p (family l u new) after
+  pub nearer : work p l u new after ≤ work p l t old before
+
+-- the turn of a constraint, or that the root is refuted
+abbrev pub IsTurn : Problem → LayoutState → Table → Table → CompiledState → List Ref → List Ref → QueueState → QueueState → Bool → Type 0
+IsTurn p l t u k old new before after true = IsTurned p l t u k old new before after
+IsTurn p l t u k old new before after false = IsRootRefuted (problem_of p)
 
 -- the domains are those of the root family, or the root is refuted
 pub record IsRootFamily (p : Problem) (l : LayoutState) (t : Table) (domains : List Ref) : Type 0 where

@@ -1,0 +1,3 @@
+mod Flagging
+mod Joining
+mod Setting
