@@ -12,6 +12,7 @@ use Rattle.fzn_model.specs.declared.faults.ModelFault.{ModelFault}
 use Rattle.fzn_model.specs.FaultsOf.{IsFaultAfter, integer_values}
 use Rattle.fzn_model.specs.FirstFault.{IsFirst}
 use Rattle.fzn_model.specs.State.{known_of}
+use Rattle.fzn_model.specs.Shared.{entity_in}
 use Rattle.fzn_model.specs.Builds.{AreFaultless, IsBuilt, IsFirstFaulty}
 use Rattle.fzn_model.proofs.FirstOfTree.{none_before}
 
@@ -24,7 +25,7 @@ empty_draft d none k b v e c t n cs ss gs =
     record {
       draft_is = record {
         state = record {
-          naming = λ name. ap (λ o. option_map (λ (x : Known). x.entity) o) (none name);
+          naming = λ name. ap (λ o. option_map (λ (x : Known). entity_in x.entity) o) (none name);
           declared = λ name. ((λ x. absurd (cc)), (λ a. absurd (omega (arith, a.2))));
           known = ap Some (sym k);
           variables = ap length k;

@@ -1,4 +1,5 @@
 mod FirstFaults
+mod OneEnd
 pub mod Among
 pub mod Firsts
 pub mod Keys
@@ -33,3 +34,4 @@ pub mod ConstraintItems
 pub mod GoodArguments
 pub mod TermCounts
 pub mod Telling
+pub mod SharedScopes

@@ -29,7 +29,7 @@ use Rattle.set_meaning.specs.Rows.{HasShape, HasSort, IsConstantOf, IsValueOf}
 use Rattle.set_meaning.specs.Sets.{IsAscending, ascending_set, integers_between}
 use Rattle.set_meaning.proofs.Ascending.{IsSetOf-ascending_set}
 use Rattle.set_meaning.proofs.Ranges.{IsAscending-integers_between}
-use Rattle.fzn_model.specs.declared.entities.Entity.{Entity}
+use Rattle.fzn_model.specs.Entities.{Entity}
 use Rattle.fzn_model.specs.declared.faults.ModelFault.{ModelFault}
 use Rattle.fzn_model.specs.declared.faults.ModelFault.TheVariants as faults
 use Rattle.fzn_model.specs.Lists.{each_of}

@@ -1,5 +1,6 @@
 -- What is put makes the draft of the items with one more.
 use Rattle.std.proofs.Common.{◌≡◌, ◌≢◌, ◌⊎◌, ◌↔◌, ℕ, ◌+◌, ◌<◌, ◌≤◌, ◌&&◌, Bool, true, false, List, [], ◌∷◌, ◌++◌, length, map, reverse, if◌then◌else◌, option_to_list, Option, Some, None, is_some, refl, sym, ap, subst, ◌∙◌, inl, inr, arith}
+use Rattle.std.specs.Option.{option_map}
 use Rattle.std.specs.Prelude.{sum_by, count_by, All, Any, IsTrue, IsSome, IfSome}
 use Rattle.std.specs.List.{flat_map}
 use Rattle.std.proofs.lemmas.Option.{none-some, same_Some}
@@ -16,14 +17,14 @@ use Rattle.set_meaning.specs.declared.kinds.Kind.{Kind}
 use Rattle.set_meaning.specs.declared.problems.Constraint.{Constraint}
 use Rattle.set_meaning.specs.Problems.{IsKind}
 use Rattle.bit_layout.specs.Limits.{IsNarrow, counted_bits}
-use Rattle.fzn_model.specs.declared.entities.Entity.{Entity}
 use Rattle.fzn_model.specs.declared.pieces.Pieces.{Pieces}
 use Rattle.fzn_model.specs.declared.drafts.Draft.{Draft}
 use Rattle.fzn_model.specs.declared.faults.ModelFault.TheVariants as faults
 use Rattle.fzn_model.specs.Limits.{all_constant_sets_limit, bit_limit, constraint_limit, term_limit, value_limit}
 use Rattle.fzn_model.specs.Lists.{append_some, each_after, sum_after}
 use Rattle.fzn_model.specs.Items.{adds_constraint, declares, ident_in, is_ident_of, is_variable}
-use Rattle.fzn_model.specs.Entities.{Naming, count_variables, entity_of, naming_after, stands_for}
+use Rattle.fzn_model.specs.Entities.{Entity, Naming, count_variables, entity_of, naming_after, stands_for}
+use Rattle.fzn_model.specs.Shared.{entity_in}
 use Rattle.fzn_model.specs.ProblemOf.{constraints_after, constraints_in, goals_after, goals_in, kinds_in, kinds_of, names_in, shown_after, shown_in}
 use Rattle.fzn_model.specs.FaultsOf.{IsFaultAfter, constant_elements_after, integer_values, terms_after}
 use Rattle.fzn_model.specs.FirstFault.{AreNone}
@@ -74,6 +75,9 @@ module _ (before : List Item) (old : Draft) (d : IsDraft before old) (number : �
 
   abbrev naming : Naming
   naming = naming_after before
+
+  abbrev new_entity : Option Entity
+  new_entity = option_map entity_in pieces.entity
 
   abbrev it : IsSound kinds naming number form
   it = s before old d number numbered at form none pieces are
@@ -147,7 +151,7 @@ module _ (before : List Item) (old : Draft) (d : IsDraft before old) (number : �
       by (Some ident) q =
           subst (λ (o : Option Ident). IfSome o (λ i. (e : Entity) × (entity_of naming number form ≡ Some e) × IsOfSort (kinds ++ it.new) e.sort e.arg)) q it.entities
 
-  declared_name : (name : List ℕ) → declares name form ≡ true → (e : Entity) × (naming_after (before ++ item ∷ []) name ≡ Some e) × (pieces.entity ≡ Some e) × IsOfSort (kinds ++ it.new) e.sort e.arg
+  declared_name : (name : List ℕ) → declares name form ≡ true → (e : Entity) × (naming_after (before ++ item ∷ []) name ≡ Some e) × (option_map entity_in pieces.entity ≡ Some e) × IsOfSort (kinds ++ it.new) e.sort e.arg
   declared_name name h =
       let e = the_entity name h in
       (e.0, next_name name ∙ (ap (λ b. if b then entity_of naming number form else naming name) h ∙ e.1), here.entities ∙ e.1, e.2)
@@ -196,11 +200,11 @@ module _ (before : List Item) (old : Draft) (d : IsDraft before old) (number : �
         by true h =
             let n = declared_name name h in
             put.declared name
-            ∙ (ap (λ b. if b && is_some pieces.entity then pieces.entity else naming_of old.so_far.declared name) h
+            ∙ (ap (λ b. if b && is_some new_entity then new_entity else naming_of old.so_far.declared name) h
             ∙ (ap (λ (o : Option Entity). if is_some o then o else naming_of old.so_far.declared name) n.2 ∙ sym n.1))
         by false h =
             put.declared name
-            ∙ (ap (λ b. if b && is_some pieces.entity then pieces.entity else naming_of old.so_far.declared name) h
+            ∙ (ap (λ b. if b && is_some new_entity then new_entity else naming_of old.so_far.declared name) h
             ∙ (d.state.naming name ∙ sym (other_name name h)))
 
     same_kinds : kinds ++ new_list ≡ new.so_far.kinds.items

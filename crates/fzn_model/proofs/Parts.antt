@@ -22,6 +22,7 @@ use Rattle.fzn_model.specs.declared.faults.ModelFault.{ModelFault}
 use Rattle.fzn_model.specs.declared.faults.ModelFault.TheVariants as faults
 use Rattle.fzn_model.specs.Items.{numbers_at, numbers_of}
 use Rattle.fzn_model.specs.Entities.{Naming, elements_of}
+use Rattle.fzn_model.specs.Shared.{entity_in}
 use Rattle.fzn_model.specs.Shapes.{HasTyping, constant, typing_of}
 use Rattle.fzn_model.specs.DeclarationRules.{HasNumberFault}
 use Rattle.fzn_model.specs.Measures.{number_fault}
@@ -164,7 +165,7 @@ unknown_name naming shape at name none = record {
 }
 
 pub known_name : (naming : Naming) (shape : Option Shape) (at : ℕ) (name : List ℕ) (known : Known) (r : Option ModelFault)
-    → naming name ≡ Some known.entity
+    → naming name ≡ Some (entity_in known.entity)
     → IsFirstOf (Told (faults.WrongType at) (IsNotAsked shape known.typing)) r
     → IsSeen (OfForm naming shape at (basics.Name name)) (elements_at naming (basics.Name name)) (record { fault = r; elements = known.elements })
 known_name naming shape at name known r is first = record {
@@ -205,6 +206,6 @@ number_elements naming nums.Large = refl
 number_elements naming nums.Float = refl
 
 pub entity_known : (r : Option (Bor Known)) (o : Option Known) → option_map (λ (k : Bor Known). k.now) r ≡ o
-    → option_map (λ (k : Known). k.entity) o ≡ option_map (λ (k : Bor Known). k.now.entity) r
+    → option_map (λ (k : Known). entity_in k.entity) o ≡ option_map (λ (k : Bor Known). entity_in k.now.entity) r
 entity_known None o e = rw (← e) refl
 entity_known (Some k) o e = rw (← e) refl

@@ -47,7 +47,7 @@ use Rattle.set_meaning.specs.Sets.{IsAscending}
 use Rattle.set_meaning.specs.Arguments.{cons_some}
 use Rattle.bit_layout.specs.Words.{span}
 use Rattle.bit_layout.specs.Limits.{IsNarrow}
-use Rattle.fzn_model.specs.declared.entities.Entity.{Entity}
+use Rattle.fzn_model.specs.Entities.{Entity}
 use Rattle.fzn_model.specs.declared.names.ConstraintName.{ConstraintName}
 use Rattle.fzn_model.specs.declared.faults.ModelFault.{ModelFault}
 use Rattle.fzn_model.specs.declared.faults.ModelFault.TheVariants as faults

@@ -19,7 +19,7 @@ use Rattle.set_meaning.specs.declared.problems.Constraint.{Constraint}
 use Rattle.set_meaning.specs.Problems.{IsKind}
 use Rattle.bit_layout.specs.Words.{width_of}
 use Rattle.bit_layout.specs.Limits.{AreWithinLimits, IsNarrow, counted_bits}
-use Rattle.fzn_model.specs.declared.entities.Entity.{Entity}
+use Rattle.fzn_model.specs.Entities.{Entity}
 use Rattle.fzn_model.specs.declared.so_far.Counts.{Counts}
 use Rattle.fzn_model.specs.declared.pieces.Pieces.{Pieces}
 use Rattle.fzn_model.specs.declared.drafts.Draft.{Draft}
@@ -62,7 +62,7 @@ module _ {A : Type 0} where
   pub gives_is : (o : Option (List A)) (xs : List A) (m : Option A) → o ≡ Some xs → Gives o m → xs ≡ option_to_list m
   gives_is o xs m e g = subst (λ z. Gives z m) e g
 
-  last_or_none : (xs : List A) → (xs ≡ []) ⊎ ((front : List A) × (x : A) × (xs ≡ front ++ x ∷ []))
+  pub last_or_none : (xs : List A) → (xs ≡ []) ⊎ ((front : List A) × (x : A) × (xs ≡ front ++ x ∷ []))
   last_or_none [] = inl refl
   last_or_none (x ∷ xs) = elim (last_or_none xs) [
     | inl e ↦ inr ([], x, ap (λ ys. x ∷ ys) e)

@@ -114,7 +114,7 @@ pub record CountsAs (c : Constraint) (args : List Arg) : Type 0 where
 pub plain_counts : (r : Relation) (args : List Arg) → CountsAs (record { relation = r; args = args; reif = None }) args
 plain_counts r args = record { in_elements = omega arith; in_terms = omega arith }
 
-reified_counts_at : (r : Relation) (front : List Arg) (t : Term) → CountsAs (record { relation = r; args = front; reif = Some t }) (front ++ One t ∷ [])
+pub reified_counts_at : (r : Relation) (front : List Arg) (t : Term) → CountsAs (record { relation = r; args = front; reif = Some t }) (front ++ One t ∷ [])
 reified_counts_at r front t =
     let e : sum_by elements_in (front ++ One t ∷ []) ≡ sum_by elements_in front + elements_in (One t) = sum_by_push elements_in front (One t) in
     let n : sum_by count_in (front ++ One t ∷ []) ≡ sum_by count_in front + count_in (One t) = sum_by_push count_in front (One t) in

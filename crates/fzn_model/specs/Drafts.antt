@@ -1,6 +1,7 @@
 -- The problem so far, and what an item adds to it. This project's own.
 use Rattle.std.specs.Prelude.{◌≡◌, ℕ, ◌+◌, ◌≤◌, ◌&&◌, List, [], ◌∷◌, ◌++◌, length, sum_by, if◌then◌else◌, option_to_list, Option, Some, None, is_some, All, IfSome, ⊤}
 use Rattle.std.specs.List.{flat_map}
+use Rattle.std.specs.Option.{option_map}
 use Rattle.fzn_parser.specs.declared.tree.Form.{Form}
 use Rattle.fzn_parser.specs.declared.tree.Item.{Item}
 use Rattle.set_meaning.specs.declared.kinds.Kind.{Kind}
@@ -13,7 +14,6 @@ use Rattle.set_meaning.specs.declared.rows.Sort.{Sort}
 use Rattle.set_meaning.specs.Problems.{IsKind}
 use Rattle.set_meaning.specs.Rows.{HasSort}
 use Rattle.bit_layout.specs.Limits.{IsNarrow, counted_bits}
-use Rattle.fzn_model.specs.declared.entities.Entity.{Entity}
 use Rattle.fzn_model.specs.declared.declared.Declared.{Declared}
 use Rattle.fzn_model.specs.declared.so_far.Counts.{Counts}
 use Rattle.fzn_model.specs.declared.so_far.SoFar.{SoFar}
@@ -22,7 +22,8 @@ use Rattle.fzn_model.specs.declared.drafts.Draft.{Draft}
 use Rattle.fzn_model.specs.Limits.{all_constant_sets_limit, bit_limit, value_limit, constraint_limit, term_limit}
 use Rattle.fzn_model.specs.Lists.{each_after}
 use Rattle.fzn_model.specs.Items.{declares}
-use Rattle.fzn_model.specs.Entities.{Naming, entity_of, naming_after}
+use Rattle.fzn_model.specs.Entities.{Entity, Naming, entity_of, naming_after}
+use Rattle.fzn_model.specs.Shared.{entity_in}
 use Rattle.fzn_model.specs.ProblemOf.{constraints_after, constraints_in, goals_after, goals_in, kinds_in, names_in, shown_after, shown_in, terms_in}
 use Rattle.fzn_model.specs.FaultsOf.{integer_values, set_size}
 use Rattle.fzn_model.specs.State.{AreSoFar, naming_of}
@@ -40,7 +41,7 @@ terms_of_constraint c = sum_by (λ arg. length (terms_in arg)) c.args + length (
 
 -- these are the pieces of the item, whose first variable has this number
 pub record ArePieces (naming : Naming) (number : ℕ) (form : Form) (pieces : Pieces) : Type 0 where
-  pub entities : pieces.entity ≡ entity_of naming number form
+  pub entities : option_map entity_in pieces.entity ≡ entity_of naming number form
   pub kinds : Gives (kinds_in form) pieces.kind
   pub names : names_in form ≡ option_to_list pieces.name
   pub constraints : Gives (constraints_in naming number form) pieces.constraint
@@ -79,7 +80,7 @@ pub record AreCounted (old : Counts) (added : Option Kind) (constraint : Option 
 
 -- the draft with the pieces of the item
 pub record IsPut (old : Draft) (form : Form) (pieces : Pieces) (new : Draft) : Type 0 where
-  pub declared : AreDeclared old.so_far.declared form pieces.entity new.so_far.declared
+  pub declared : AreDeclared old.so_far.declared form (option_map entity_in pieces.entity) new.so_far.declared
   pub kinds : new.so_far.kinds.items ≡ old.so_far.kinds.items ++ option_to_list pieces.kind
   pub counted : AreCounted old.so_far.counts pieces.kind pieces.constraint new.so_far.counts
   pub names : new.names.items ≡ old.names.items ++ option_to_list pieces.name

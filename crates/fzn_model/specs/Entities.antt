@@ -25,7 +25,6 @@ use Rattle.set_meaning.specs.declared.problems.Arg.TheVariants.{One, Many}
 use Rattle.set_meaning.specs.declared.rows.Sort.{Sort}
 use Rattle.set_meaning.specs.declared.rows.Sort.TheVariants.{Boolean, Integer, IntegerSet}
 use Rattle.set_meaning.specs.Sets.{ascending_set, integers_between}
-use Rattle.fzn_model.specs.declared.entities.Entity.{Entity}
 use Rattle.fzn_model.specs.Lists.{each_of}
 use Rattle.fzn_model.specs.Items.{declares, is_variable}
 
@@ -60,6 +59,11 @@ elements_of (sets.Range low high) = range_of (integer_of low) (integer_of high)
 elements_of (sets.List numbers) = option_map ascending_set (each_of integer_of numbers)
 
 -- ---- entities
+
+-- what a name stands for: a term or an array of terms, with the sort of its declaration, which an empty array keeps
+pub record Entity : Type 0 where
+  pub sort : Sort
+  pub arg : Arg
 
 -- what each name stands for; nothing where no item declares it, or where the item that does is faulty
 abbrev pub Naming : Type 0

@@ -4,6 +4,7 @@ pub mod Printed
 pub mod Names
 pub mod Items
 pub mod Entities
+pub mod Shared
 pub mod Shapes
 pub mod Outputs
 pub mod ProblemOf

@@ -8,6 +8,7 @@ use Rattle.fzn_model.specs.declared.faults.ModelFault.{ModelFault}
 use Rattle.fzn_model.specs.declared.faults.ModelFault.TheVariants as faults
 use Rattle.fzn_model.specs.declared.sets.Measure.{Measure}
 use Rattle.fzn_model.specs.declared.sets.Measure.TheVariants.{Unknown, Wide, Set}
+use Rattle.fzn_model.specs.Shared.{set_in}
 
 -- there is a list, and it is longer than the limit
 pub record IsLonger (known : Option (List ℤ)) (limit : ℕ) : Type 0 where
@@ -24,7 +25,7 @@ pub record IsShort (known : Option (List ℤ)) (limit : ℕ) (elements : List �
 abbrev pub IsMeasured : Option (List ℤ) → ℕ → Measure → Type 0
 IsMeasured known limit Unknown = known ≡ None
 IsMeasured known limit Wide = IsLonger known limit
-IsMeasured known limit (Set elements) = IsShort known limit elements
+IsMeasured known limit (Set set) = IsShort known limit (set_in set)
 
 -- these integers, and behind them those of the rest, where they are known
 abbrev pub with_front : List ℤ → Option (List ℤ) → Option (List ℤ)

@@ -12,6 +12,7 @@ use Rattle.fzn_model.specs.Limits.{all_constant_sets_limit, value_limit, constra
 use Rattle.fzn_model.specs.Lists.{sum_after}
 use Rattle.fzn_model.specs.Items.{adds_constraint, declares}
 use Rattle.fzn_model.specs.Entities.{Naming, count_variables, naming_after}
+use Rattle.fzn_model.specs.Shared.{entity_in}
 use Rattle.fzn_model.specs.ProblemOf.{kinds_of}
 use Rattle.fzn_model.specs.FaultsOf.{constant_elements_after, integer_values, terms_after}
 
@@ -20,7 +21,7 @@ abbrev pub known_of : Declared → List ℕ → Option Known
 known_of table name = get_by (λ key. pointwise nat_eq name key.items) table.names
 
 abbrev pub naming_of : Declared → Naming
-naming_of table name = option_map (λ known. known.entity) (known_of table name)
+naming_of table name = option_map (λ known. entity_in known.entity) (known_of table name)
 
 -- the state after these items: its names, kinds and counts are theirs, and no count is beyond its limit
 pub record AreSoFar (before : List Item) (state : SoFar) : Type 0 where

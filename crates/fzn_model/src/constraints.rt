@@ -1,6 +1,6 @@
 //! The first fault at the name of a constraint, or of a variable that is given a value.
 
-ghost use Rattle.std.specs.Prelude.{◌≡◌, ◌↔◌, ◌+◌, ◌<◌, ◌≤◌, IsTrue, length, sum_by, Some, IfOk, All};
+ghost use Rattle.std.specs.Prelude.{◌≡◌, ◌↔◌, ◌+◌, ◌<◌, ◌≤◌, IsTrue, length, map, sum_by, Some, IfOk, All};
 ghost use Rattle.bit_layout.specs.Limits.{AreWithinLimits};
 ghost use Rattle.set_meaning.specs.Rows.{ArePaired, AreOfOneLength};
 ghost use Rattle.fzn_model.specs.ConstraintFaults.{IsUnpaired, IsWide, OfConstraint, OfCounts, OfGood, OfMade, OfNaming, before_of, term_count};
@@ -10,17 +10,20 @@ ghost use Rattle.fzn_model.specs.Meanings.{IsShort};
 ghost use Rattle.fzn_model.specs.ProblemOf.{constraint_named};
 ghost use Rattle.fzn_model.specs.Shapes.{argument_shapes};
 ghost use Rattle.fzn_model.specs.State.{AreSoFar, naming_of};
+ghost use Rattle.fzn_model.specs.Shared.{arg_in, constraint_in};
 
 use crate::declared::Declared;
 use crate::earlier::earlier;
 use crate::faults::ModelFault;
 use crate::names::{ConstraintName, named};
 use crate::pieces::constraint_named;
+use crate::shared::{SharedArg, SharedConstraint};
 use crate::so_far::SoFar;
 use crate::term_counts::term_count;
+use crate::variables::scope;
 use bit_layout::width;
 use fzn_parser::{Expr, Form, Item};
-use set_meaning::{Arg, Constraint, Kind, VarId, row_of, scope};
+use set_meaning::{Kind, VarId, row_of};
 use std::alloc::{AllocError, Global};
 use std::slice;
 
@@ -127,7 +130,7 @@ fn argument_count(name: ConstraintName) -> usize
 
 // ---- the arguments
 
-/// The first fault of a constraint that needs arguments without faults.
+/// The first fault of a constraint that needs arguments without faults. No array and no set is copied.
 fn fault_of_arguments(
     alloc: Global,
     so_far: &SoFar,
@@ -154,10 +157,10 @@ fn fault_of_made(
     alloc: Global,
     kinds: &[Kind],
     at: usize,
-    made: &Constraint,
+    made: &SharedConstraint,
 ) -> Result<Option<ModelFault>, AllocError>
     requires { AreWithinLimits kinds.now }
-    ensures { IfOk result (IsFirstOf (OfMade at kinds.now (Some made.now))) }
+    ensures { IfOk result (IsFirstOf (OfMade at kinds.now (Some (constraint_in made.now)))) }
 {
     if is_unpaired(made) {
         return Ok(Some(ModelFault::WrongCount { at }));
@@ -169,14 +172,14 @@ fn fault_of_made(
 }
 
 /// Whether the constraint is a linear one whose two lists differ in length.
-fn is_unpaired(c: &Constraint) -> bool
-    ensures { IsTrue result ↔ IsUnpaired c.now }
+fn is_unpaired(c: &SharedConstraint) -> bool
+    ensures { IsTrue result ↔ IsUnpaired (constraint_in c.now) }
 {
-    row_of(c.relation).paired && !are_paired(c.args.items())
+    row_of(c.relation).paired && !are_paired(c.args.as_slice())
 }
 
-fn are_paired(args: &[Arg]) -> bool
-    ensures { IsTrue result ↔ ArePaired args.now }
+fn are_paired(args: &[SharedArg]) -> bool
+    ensures { IsTrue result ↔ ArePaired (map arg_in args.now) }
 {
     match args {
         [a, b, ..] => are_of_one_length(a, b),
@@ -184,19 +187,19 @@ fn are_paired(args: &[Arg]) -> bool
     }
 }
 
-fn are_of_one_length(a: &Arg, b: &Arg) -> bool
-    ensures { IsTrue result ↔ AreOfOneLength a.now b.now }
+fn are_of_one_length(a: &SharedArg, b: &SharedArg) -> bool
+    ensures { IsTrue result ↔ AreOfOneLength (arg_in a.now) (arg_in b.now) }
 {
     match (a, b) {
-        (Arg::Many(cs), Arg::Many(xs)) => cs.items().len() == xs.items().len(),
+        (SharedArg::Many(cs), SharedArg::Many(xs)) => cs.len() == xs.len(),
         _ => false,
     }
 }
 
 /// Whether the variables of the constraint have too many bits.
-fn is_wide(alloc: Global, kinds: &[Kind], c: &Constraint) -> Result<bool, AllocError>
+fn is_wide(alloc: Global, kinds: &[Kind], c: &SharedConstraint) -> Result<bool, AllocError>
     requires { AreWithinLimits kinds.now }
-    ensures { IfOk result (λ wide. IsTrue wide ↔ IsWide kinds.now c.now) }
+    ensures { IfOk result (λ wide. IsTrue wide ↔ IsWide kinds.now (constraint_in c.now)) }
 {
     let scope = scope(alloc, c)?;
     Ok(have_many_bits(kinds, scope.as_slice()))

@@ -9,10 +9,9 @@ ghost use Rattle.fzn_model.specs.ProblemOf.{terms_in};
 ghost use Rattle.fzn_model.specs.Meanings.{elements_in};
 ghost use Rattle.fzn_model.specs.Drafts.{AreCounted, CanBeCounted, IsCountable, elements_of_constraint, terms_of_constraint};
 
-use crate::known::{elements_in, set_size};
 use crate::so_far::Counts;
 use bit_layout::width;
-use set_meaning::{Arg, Constraint, Kind, Term};
+use set_meaning::{Arg, Constraint, Kind, Term, Value};
 
 impl Counts {
     /// Counts a variable of the kind.
@@ -59,6 +58,36 @@ fn elements_of_args(args: &[Arg]) -> u64
 {
     let all: u128 = args.iter().map(|arg| elements_in(arg)).sum();
     all as u64
+}
+
+/// How many elements the constant sets of the argument have together.
+fn elements_in(arg: &Arg) -> u128
+    ensures { result ≡ elements_in arg.now }
+{
+    match arg {
+        Arg::One(term) => u128::from(set_size(term)),
+        Arg::Many(terms) => set_sizes(terms.items()),
+    }
+}
+
+fn set_sizes(terms: &[Term]) -> u128
+    ensures { result ≡ sum_by set_size terms.now }
+{
+    let mut total = 0u128;
+    for term in terms {
+        total += u128::from(set_size(term));
+    }
+    total
+}
+
+/// How many elements the term has, where it is a constant set.
+fn set_size(term: &Term) -> u64
+    ensures { result ≡ set_size term.now }
+{
+    match term {
+        Term::Const(Value::Set(set)) => set.elements().len() as u64,
+        _ => 0,
+    }
 }
 
 fn elements_of_truth(truth: &Option<Term>) -> u64

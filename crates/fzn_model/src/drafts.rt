@@ -1,12 +1,13 @@
 //! The problem so far.
 
 ghost use Rattle.std.specs.Prelude.{◌≡◌, ◌++◌, OnOk, IfSome, None, option_to_list};
-ghost use Rattle.std.specs.Option.{option_copied};
+ghost use Rattle.std.specs.Option.{option_copied, option_map};
 ghost use Rattle.fzn_model.specs.Items.{ident_in};
+ghost use Rattle.fzn_model.specs.Shared.{entity_in};
 ghost use Rattle.fzn_model.specs.Drafts.{AreCounted, AreDeclared, CanBeCounted, CanBePut, IsCountable, IsPut};
 
 use crate::declared::Declared;
-use crate::entities::Entity;
+use crate::entities::SharedEntity;
 use crate::known::Known;
 use crate::pieces::Pieces;
 use crate::so_far::{Counts, SoFar};
@@ -92,9 +93,9 @@ fn declare(
     alloc: Global,
     declared: &mut Declared,
     form: &Form,
-    entity: Option<Entity>,
+    entity: Option<SharedEntity>,
 ) -> Result<(), AllocError>
-    ensures { OnOk result (AreDeclared declared.old form.now entity declared.new) }
+    ensures { OnOk result (AreDeclared declared.old form.now (option_map entity_in entity) declared.new) }
 {
     match ident_in(form) {
         Some(ident) => match entity {

@@ -14,6 +14,7 @@ ghost use Rattle.fzn_model.specs.PartFaults.{IsFound, IsNotAsked, IsSeen, IsSing
 ghost use Rattle.fzn_model.specs.Shapes.{array_shape, shapes_named};
 ghost use Rattle.set_meaning.specs.declared.rows.Shape.TheVariants.{OneOf, ConstantOf};
 ghost use Rattle.fzn_model.specs.State.{AreSoFar, naming_of};
+ghost use Rattle.fzn_model.specs.Shared.{entity_in};
 
 use crate::arguments::argument_shapes;
 use crate::declarations::number_in_set;
@@ -406,7 +407,7 @@ fn fault_of_number(at: usize, shape: Option<Shape>, num: Num) -> Option<ModelFau
 }
 
 fn seen_in_name(at: usize, shape: Option<Shape>, known: Option<&Known>) -> Seen
-    ensures { (naming : Naming) (name : List ℕ) → naming name ≡ option_map (λ k. k.now.entity) known.entry
+    ensures { (naming : Naming) (name : List ℕ) → naming name ≡ option_map (λ k. entity_in k.now.entity) known.entry
         → IsSeen (OfForm naming shape at (basics.Name name)) (elements_at naming (basics.Name name)) result }
 {
     match known {

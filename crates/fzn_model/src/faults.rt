@@ -15,8 +15,8 @@ pub enum ModelFault {
     /// A declared name is declared again. The place is the name.
     #[error("declared twice")]
     DeclaredTwice { at: usize },
-    /// An expression has not the sort that its place asks for, or a variable stands where a constant must. The place
-    /// is the expression.
+    /// An expression has not the sort that its place asks for, or is an array where a single term is asked, or the
+    /// other way round, or a variable stands where a constant must. The place is the expression.
     #[error("wrong type")]
     WrongType { at: usize },
     /// No relation has the constraint's name. The place is the name.
@@ -60,7 +60,7 @@ pub enum ModelFault {
     /// constraint, or of the variable that is given a value.
     #[error("too many constraints")]
     TooManyConstraints { at: usize },
-    /// An output annotation that does not fit its item, or whose arguments are not those of its form. The place is the
+    /// The first output annotation of a scalar variable or of an array of variables does not show it. The place is the
     /// annotation's name.
     #[error("bad output annotation")]
     BadOutput { at: usize },

@@ -12,17 +12,19 @@ ghost use Rattle.fzn_model.specs.Shapes.{Suits};
 ghost use Rattle.fzn_model.specs.FaultsOf.{InObjective, IsIntegerPart};
 ghost use Rattle.fzn_model.specs.FirstFault.{IsFirstOf};
 ghost use Rattle.fzn_model.specs.State.{AreSoFar, naming_of};
+ghost use Rattle.fzn_model.specs.Shared.{arg_in};
 ghost use Rattle.fzn_model.specs.Objectives.{IsIntegerConstant, objective_of_item};
 
 use crate::declarations::fault_if;
 use crate::declared::Declared;
 use crate::earlier::earlier;
 use crate::faults::ModelFault;
+use crate::shared::{SharedArg, SharedTerm};
 use crate::so_far::SoFar;
 use crate::typing::has_typing;
 use crate::weights::{Weight, is_too_much};
 use fzn_parser::{BasicForm, Expr, Form, GoalForm, Item, Num};
-use set_meaning::{Arg, Shape, Sort, Term, Value};
+use set_meaning::{Shape, Sort};
 
 /// What the unnamed variable of a constant objective counts: it has one value.
 const ONE_VALUE: Weight = Weight { bits: 1, values: 1 };
@@ -174,11 +176,11 @@ fn is_constant_name(declared: &Declared, name: &[u8]) -> bool
     }
 }
 
-fn is_constant_argument(arg: &Arg) -> bool
-    ensures { IsTrue result ↔ IsIntegerConstant (Some arg.now) }
+fn is_constant_argument(arg: &SharedArg) -> bool
+    ensures { IsTrue result ↔ IsIntegerConstant (Some (arg_in arg.now)) }
 {
     match arg {
-        Arg::One(Term::Const(Value::Int(_))) => true,
+        SharedArg::One(SharedTerm::Int(_)) => true,
         _ => false,
     }
 }

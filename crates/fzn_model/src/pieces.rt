@@ -1,6 +1,7 @@
 //! What an item adds to the problem.
 
-ghost use Rattle.std.specs.Prelude.{◌≡◌, length, option_to_list, IfOk, All};
+ghost use Rattle.std.specs.Prelude.{◌≡◌, length, map, option_to_list, IfOk, All};
+ghost use Rattle.std.specs.Option.{option_map};
 ghost use Rattle.fzn_model.specs.Items.{objective_in};
 ghost use Rattle.fzn_model.specs.Entities.{array_of, elements_of, entity, entity_of};
 ghost use Rattle.fzn_model.specs.ProblemOf.{constraint_named, constraint_of, constraints_in, equality_of, goal_of, goals_in, kind_of, kinds_in, names_in, objective_of, objective_var, shown_array, shown_in, shown_scalar, terms_in};
@@ -8,17 +9,19 @@ ghost use Rattle.fzn_model.specs.Outputs.{output_in};
 ghost use Rattle.fzn_model.specs.State.{naming_of};
 ghost use Rattle.fzn_model.specs.Meanings.{Gives, IsShort, IsShortIfAny, IsShortItem, IsShortKind, IsShortPart, IsShortSet, IsShortType};
 ghost use Rattle.fzn_model.specs.Drafts.{ArePieces};
+ghost use Rattle.fzn_model.specs.Shared.{arg_in, constraint_in, entity_in, term_in};
 
 use crate::declared::Declared;
-use crate::entities::{Entity, sort_of};
+use crate::entities::{SharedEntity, sort_of};
 use crate::kinds::equality;
 use crate::meanings::{arg_of, args_of, array_of};
 use crate::names::{ConstraintName, named};
 use crate::outputs::{dims_by, output_in, shows_scalar};
 use crate::sets::{Measure, measured};
+use crate::shared::{SharedArg, SharedConstraint, SharedTerm, made_terms};
 use fzn_parser::{Ann, Basic, Expr, Form, GoalForm, SetForm, TypeForm};
 use listed::Listed;
-use set_meaning::{Arg, Constraint, Goal, Kind, SetValue, Shown, Term, Text, Value, VarId};
+use set_meaning::{Arg, Constraint, Goal, Kind, SetValue, Shown, Term, Text, VarId};
 use std::alloc::{AllocError, Global};
 
 /// The most elements of a constant set, and of what bounds a variable.
@@ -28,7 +31,7 @@ const LITERAL_LIMIT: u64 = 65_536;
 #[derive(Drop)]
 pub(crate) struct Pieces {
     /// What the name that it declares stands for.
-    pub entity: Option<Entity>,
+    pub entity: Option<SharedEntity>,
     pub kind: Option<Kind>,
     /// The name of the variable that it declares.
     pub name: Option<Text>,
@@ -85,9 +88,9 @@ fn entity_of(
     declared: &Declared,
     number: u32,
     form: &Form,
-) -> Result<Option<Entity>, AllocError>
+) -> Result<Option<SharedEntity>, AllocError>
     requires { IsShortItem form.now }
-    ensures { IfOk result (λ found. found ≡ entity_of (naming_of declared.now) number form.now) }
+    ensures { IfOk result (λ found. option_map entity_in found ≡ entity_of (naming_of declared.now) number form.now) }
 {
     match form {
         Form::Param { sort, value, .. } => {
@@ -95,7 +98,10 @@ fn entity_of(
             Ok(entity(&sort.form, arg))
         }
         Form::Variable { sort, .. } => {
-            Ok(entity(&sort.form, Some(Arg::One(Term::Var(VarId(number))))))
+            Ok(entity(
+                &sort.form,
+                Some(SharedArg::One(SharedTerm::Var(VarId(number)))),
+            ))
         }
         Form::Array { sort, items, .. } => {
             entity_of_array(alloc, declared, &sort.form, items.items())
@@ -109,20 +115,20 @@ fn entity_of_array(
     declared: &Declared,
     form: &TypeForm,
     items: &[Basic],
-) -> Result<Option<Entity>, AllocError>
+) -> Result<Option<SharedEntity>, AllocError>
     requires { All IsShortPart items.now }
-    ensures { IfOk result (λ found. found ≡ entity form.now (array_of (naming_of declared.now) items.now)) }
+    ensures { IfOk result (λ found. option_map entity_in found ≡ entity form.now (array_of (naming_of declared.now) items.now)) }
 {
     let array = array_of(alloc, declared, items)?;
     Ok(entity(form, array))
 }
 
-fn entity(form: &TypeForm, arg: Option<Arg>) -> Option<Entity>
-    ensures { result ≡ entity form.now arg }
+fn entity(form: &TypeForm, arg: Option<SharedArg>) -> Option<SharedEntity>
+    ensures { option_map entity_in result ≡ entity form.now (option_map arg_in arg) }
 {
     match sort_of(form) {
         Some(sort) => match arg {
-            Some(arg) => Some(Entity { sort, arg }),
+            Some(arg) => Some(SharedEntity { sort, arg }),
             None => None,
         },
         None => None,
@@ -155,7 +161,7 @@ fn elements_of(alloc: Global, literal: &SetForm) -> Result<Option<SetValue>, All
     match measured(alloc, literal, LITERAL_LIMIT)? {
         Measure::Unknown => Ok(None),
         Measure::Wide => Ok(None),
-        Measure::Set(set) => Ok(Some(set)),
+        Measure::Set(set) => Ok(Some(set.made(alloc)?)),
     }
 }
 
@@ -171,7 +177,7 @@ fn constraint_in(
 {
     match form {
         Form::Constraint { name, args, .. } => {
-            constraint_named(alloc, declared, name.name.items(), args.items())
+            made_constraint(alloc, declared, name.name.items(), args.items())
         }
         Form::Variable {
             sort,
@@ -182,7 +188,8 @@ fn constraint_in(
     }
 }
 
-pub(crate) fn constraint_named(
+/// The constraint of the name over what the expressions stand for; None where there is none.
+fn made_constraint(
     alloc: Global,
     declared: &Declared,
     name: &[u8],
@@ -190,6 +197,22 @@ pub(crate) fn constraint_named(
 ) -> Result<Option<Constraint>, AllocError>
     requires { All IsShort expressions.now }
     ensures { IfOk result (λ c. c ≡ constraint_named (naming_of declared.now) name.now expressions.now) }
+{
+    match constraint_named(alloc, declared, name, expressions)? {
+        Some(constraint) => Ok(Some(made(alloc, &constraint)?)),
+        None => Ok(None),
+    }
+}
+
+/// The same, in which nothing is copied that a name stands for.
+pub(crate) fn constraint_named(
+    alloc: Global,
+    declared: &Declared,
+    name: &[u8],
+    expressions: &[Expr],
+) -> Result<Option<SharedConstraint>, AllocError>
+    requires { All IsShort expressions.now }
+    ensures { IfOk result (λ c. option_map constraint_in c ≡ constraint_named (naming_of declared.now) name.now expressions.now) }
 {
     match named(name) {
         Some(name) => match args_of(alloc, declared, expressions)? {
@@ -201,24 +224,54 @@ pub(crate) fn constraint_named(
 }
 
 /// The constraint of the name over these arguments; the last of them is the truth value where the name is reified.
-fn constraint_of(name: ConstraintName, mut args: Vec<Arg>) -> Option<Constraint>
-    ensures { result ≡ constraint_of name args.items }
+fn constraint_of(name: ConstraintName, mut args: Vec<SharedArg>) -> Option<SharedConstraint>
+    ensures { option_map constraint_in result ≡ constraint_of name (map arg_in args.items) }
 {
     if !name.is_reified {
-        return Some(Constraint {
+        return Some(SharedConstraint {
             relation: name.relation,
-            args: Listed::of(args),
+            args,
             reif: None,
         });
     }
     match args.pop() {
-        Some(Arg::One(truth)) => Some(Constraint {
+        Some(SharedArg::One(truth)) => Some(SharedConstraint {
             relation: name.relation,
-            args: Listed::of(args),
+            args,
             reif: Some(truth),
         }),
         _ => None,
     }
+}
+
+/// The constraint, with memory of its own.
+fn made(alloc: Global, constraint: &SharedConstraint) -> Result<Constraint, AllocError>
+    ensures { IfOk result (λ c. c ≡ constraint_in constraint.now) }
+{
+    Ok(Constraint {
+        relation: constraint.relation,
+        args: Listed::of(made_args(alloc, constraint.args.as_slice())?),
+        reif: made_truth(alloc, &constraint.reif)?,
+    })
+}
+
+fn made_truth(alloc: Global, truth: &Option<SharedTerm>) -> Result<Option<Term>, AllocError>
+    ensures { IfOk result (λ made. made ≡ option_map term_in truth.now) }
+{
+    match truth {
+        Some(term) => Ok(Some(term.made(alloc)?)),
+        None => Ok(None),
+    }
+}
+
+fn made_args(alloc: Global, args: &[SharedArg]) -> Result<Vec<Arg>, AllocError>
+    ensures { IfOk result (λ made. made.items ≡ map arg_in args.now) }
+{
+    let mut made = Vec::new(alloc);
+    for arg in args {
+        made.push(arg.made(alloc)?)?;
+    }
+    Ok(made)
 }
 
 /// The constraint that the variable of this number is equal to the expression.
@@ -236,7 +289,7 @@ fn equality_of(
         Some(sort) => match arg_of(alloc, declared, value)? {
             Some(arg) => {
                 let variable = Arg::One(Term::Var(VarId(number)));
-                let args = vec![in alloc; variable, arg]?;
+                let args = vec![in alloc; variable, arg.made(alloc)?]?;
                 Ok(Some(Constraint {
                     relation: equality(sort),
                     args: Listed::of(args),
@@ -320,7 +373,7 @@ fn shown_array(
             Some(dims) => match array_of(alloc, declared, items)? {
                 Some(array) => Ok(Some(Shown {
                     name: Listed::of(name.to_vec(alloc)?),
-                    terms: terms_in(alloc, array)?,
+                    terms: terms_in(alloc, &array)?,
                     dims: Listed::of(dims),
                 })),
                 None => Ok(None),
@@ -331,12 +384,12 @@ fn shown_array(
     }
 }
 
-fn terms_in(alloc: Global, arg: Arg) -> Result<Listed<Term>, AllocError>
-    ensures { IfOk result (λ terms. terms ≡ terms_in arg) }
+fn terms_in(alloc: Global, arg: &SharedArg) -> Result<Listed<Term>, AllocError>
+    ensures { IfOk result (λ terms. terms ≡ terms_in (arg_in arg.now)) }
 {
     match arg {
-        Arg::One(term) => Ok(Listed::of(vec![in alloc; term]?)),
-        Arg::Many(terms) => Ok(terms),
+        SharedArg::One(term) => Ok(Listed::of(vec![in alloc; term.made(alloc)?]?)),
+        SharedArg::Many(terms) => Ok(Listed::of(made_terms(alloc, terms.as_slice())?)),
     }
 }
 
@@ -398,13 +451,15 @@ fn objective_of(
 fn objective_var(
     alloc: Global,
     number: u32,
-    arg: Arg,
+    arg: SharedArg,
 ) -> Result<Option<(VarId, Listed<Kind>)>, AllocError>
-    ensures { IfOk result (λ made. made ≡ objective_var number arg) }
+    ensures { IfOk result (λ made. made ≡ objective_var number (arg_in arg)) }
 {
     match arg {
-        Arg::One(Term::Var(variable)) => Ok(Some((variable, Listed::of(Vec::new(alloc))))),
-        Arg::One(Term::Const(Value::Int(x))) => {
+        SharedArg::One(SharedTerm::Var(variable)) => {
+            Ok(Some((variable, Listed::of(Vec::new(alloc)))))
+        }
+        SharedArg::One(SharedTerm::Int(x)) => {
             let numbers = SetValue::from_list(alloc, [x].as_slice())?;
             let kinds = vec![in alloc; Kind::Int(numbers)]?;
             Ok(Some((VarId(number), Listed::of(kinds))))

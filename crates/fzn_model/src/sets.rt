@@ -1,4 +1,4 @@
-//! Set literals, measured and made.
+//! Set literals, measured.
 
 ghost use Rattle.std.specs.Prelude.{◌≡◌, ◌≤◌, ℤ, Some, IfOk};
 ghost use Rattle.std.specs.Option.{option_map};
@@ -7,29 +7,32 @@ ghost use Rattle.fzn_model.specs.Entities.{integer_of, elements_of};
 ghost use Rattle.fzn_model.specs.Lists.{each_of};
 ghost use Rattle.fzn_model.specs.Measures.{IsMeasured};
 
+use crate::shared::SharedSet;
+use crate::short_range::ShortRange;
 use fzn_parser::{Num, Number, SetForm};
 use set_meaning::SetValue;
 use std::alloc::{AllocError, Global};
+use std::rc::Rc;
 
-/// A set literal that is made where it is not too wide.
+/// A set literal, and its elements where it is not too wide.
 #[derive(Drop, Debug)]
 pub(crate) enum Measure {
     /// It has a float, or an integer that is too large.
     Unknown,
     /// It has more elements than the limit.
     Wide,
-    Set(SetValue),
+    Set(SharedSet),
 }
 
-/// The elements of the literal, where there are at most `limit` of them. A range that is too wide is not made; a list
-/// is, doubles dropped, in the time of a sort.
+/// The elements of the literal, where there are at most `limit` of them. A range is not made; a list is, doubles
+/// dropped, in the time of a sort.
 pub(crate) fn measured(alloc: Global, literal: &SetForm, limit: u64) -> Result<Measure, AllocError>
     requires { limit ≤ 65536 }
     ensures { IfOk result (IsMeasured (elements_of literal.now) limit) }
 {
     match literal {
         SetForm::Range(low, high) => match (integer_of(low), integer_of(high)) {
-            (Some(lo), Some(hi)) => measured_range(alloc, lo, hi, limit),
+            (Some(lo), Some(hi)) => Ok(measured_range(lo, hi, limit)),
             _ => Ok(Measure::Unknown),
         },
         SetForm::List(numbers) => match integers(alloc, numbers.items())? {
@@ -40,14 +43,14 @@ pub(crate) fn measured(alloc: Global, literal: &SetForm, limit: u64) -> Result<M
 }
 
 #[tactic(auto, using(crate::proofs::Ranges::size_of_range))]
-fn measured_range(alloc: Global, lo: i64, hi: i64, limit: u64) -> Result<Measure, AllocError>
+fn measured_range(lo: i64, hi: i64, limit: u64) -> Measure
     requires { limit ≤ 65536 }
-    ensures { IfOk result (IsMeasured (Some (integers_between lo hi)) limit) }
+    ensures { IsMeasured (Some (integers_between lo hi)) limit result }
 {
     if range_size(lo, hi) > u128::from(limit) {
-        return Ok(Measure::Wide);
+        return Measure::Wide;
     }
-    Ok(Measure::Set(SetValue::from_range(alloc, lo, hi)?))
+    Measure::Set(SharedSet::Range(ShortRange::new(lo, hi)))
 }
 
 /// How many integers there are from `lo` to `hi`, both included.
@@ -68,7 +71,10 @@ fn measured_list(alloc: Global, items: &[i64], limit: u64) -> Result<Measure, Al
     if count > limit {
         return Ok(Measure::Wide);
     }
-    Ok(Measure::Set(set))
+    match Rc::new(alloc, set) {
+        Ok(set) => Ok(Measure::Set(SharedSet::List(set))),
+        Err(_) => Err(AllocError),
+    }
 }
 
 /// The integers, where each is told.

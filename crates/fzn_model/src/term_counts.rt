@@ -7,11 +7,12 @@ ghost use Rattle.fzn_model.specs.Entities.{Naming, arg_named, arg_of_part, array
 ghost use Rattle.fzn_model.specs.FaultsOf.{terms_of};
 ghost use Rattle.fzn_model.specs.ConstraintFaults.{term_count};
 ghost use Rattle.fzn_model.specs.State.{naming_of};
+ghost use Rattle.fzn_model.specs.Shared.{arg_in, entity_in};
 
 use crate::declared::Declared;
 use crate::known::Known;
+use crate::shared::SharedArg;
 use fzn_parser::{Basic, BasicForm, Expr, Num, Number, SetForm};
-use set_meaning::Arg;
 
 /// How many terms the expression stands for; 0 where it stands for nothing.
 pub(crate) fn term_count(declared: &Declared, expression: &Expr) -> u128
@@ -35,11 +36,11 @@ fn count_in_part(declared: &Declared, form: &BasicForm) -> u128
 }
 
 fn count_named(known: Option<&Known>) -> u128
-    ensures { (naming : Naming) (name : List ℕ) → naming name ≡ option_map (λ k. k.now.entity) known.entry
+    ensures { (naming : Naming) (name : List ℕ) → naming name ≡ option_map (λ k. entity_in k.now.entity) known.entry
         → result ≡ length (terms_of (arg_named naming name)) }
 {
     match known {
-        Some(known) => known.entity.arg.terms().len() as u128,
+        Some(known) => known.entity.arg.count() as u128,
         None => 0,
     }
 }
@@ -78,7 +79,7 @@ fn is_single(declared: &Declared, form: &BasicForm) -> bool
 }
 
 fn names_single(known: Option<&Known>) -> bool
-    ensures { (naming : Naming) (name : List ℕ) → naming name ≡ option_map (λ k. k.now.entity) known.entry
+    ensures { (naming : Naming) (name : List ℕ) → naming name ≡ option_map (λ k. entity_in k.now.entity) known.entry
         → result ≡ is_some (option_and_then one_term (arg_named naming name)) }
 {
     match known {
@@ -87,12 +88,12 @@ fn names_single(known: Option<&Known>) -> bool
     }
 }
 
-fn is_one(arg: &Arg) -> bool
-    ensures { result ≡ is_some (one_term arg.now) }
+fn is_one(arg: &SharedArg) -> bool
+    ensures { result ≡ is_some (one_term (arg_in arg.now)) }
 {
     match arg {
-        Arg::One(_) => true,
-        Arg::Many(_) => false,
+        SharedArg::One(_) => true,
+        SharedArg::Many(_) => false,
     }
 }
 

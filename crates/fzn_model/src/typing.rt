@@ -1,10 +1,12 @@
 //! What expressions are, and whether that is what is asked.
 
-ghost use Rattle.std.specs.Prelude.{◌≡◌, ◌↔◌, IsTrue};
+ghost use Rattle.std.specs.Prelude.{◌≡◌, ◌↔◌, IsTrue, map};
 ghost use Rattle.std.specs.List.{list_all};
 ghost use Rattle.fzn_model.specs.Shapes.{HasTyping, constant, is_constant, typing_of_arg};
+ghost use Rattle.fzn_model.specs.Shared.{arg_in, term_in};
 
-use set_meaning::{Arg, Shape, Sort, Term};
+use crate::shared::{SharedArg, SharedTerm};
+use set_meaning::{Shape, Sort};
 
 /// What an expression is: its sort, whether it is an array, and whether it is made of constants alone.
 #[derive(Clone, Copy, Debug, PartialEq, Eq)]
@@ -26,35 +28,42 @@ pub(crate) fn constant(sort: Sort) -> Typing
 }
 
 /// What an argument of the sort is. Linear in the length of an array.
-pub(crate) fn typing_of_arg(sort: Sort, arg: &Arg) -> Typing
-    ensures { result ≡ typing_of_arg sort arg.now }
+pub(crate) fn typing_of_arg(sort: Sort, arg: &SharedArg) -> Typing
+    ensures { result ≡ typing_of_arg sort (arg_in arg.now) }
 {
     match arg {
-        Arg::One(term) => Typing {
+        SharedArg::One(term) => Typing {
             sort,
             is_array: false,
             is_constant: is_constant(term),
         },
-        Arg::Many(terms) => Typing {
+        SharedArg::Many(terms) => Typing {
             sort,
             is_array: true,
-            is_constant: are_constant(terms.items()),
+            is_constant: are_constant(terms.as_slice()),
         },
     }
 }
 
-fn are_constant(terms: &[Term]) -> bool
-    ensures { result ≡ list_all is_constant terms.now }
+fn are_constant(terms: &[SharedTerm]) -> bool
+    ensures { result ≡ list_all is_constant (map term_in terms.now) }
 {
-    terms.iter().all(|term| is_constant(term))
+    for term in terms {
+        if !is_constant(term) {
+            return false;
+        }
+    }
+    true
 }
 
-fn is_constant(term: &Term) -> bool
-    ensures { result ≡ is_constant term.now }
+fn is_constant(term: &SharedTerm) -> bool
+    ensures { result ≡ is_constant (term_in term.now) }
 {
     match term {
-        Term::Const(_) => true,
-        Term::Var(_) => false,
+        SharedTerm::Bool(_) => true,
+        SharedTerm::Int(_) => true,
+        SharedTerm::Set(_) => true,
+        SharedTerm::Var(_) => false,
     }
 }
 

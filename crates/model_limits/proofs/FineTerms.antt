@@ -98,7 +98,7 @@ both_there None p ys e = absurd (none-some ys e)
 both_there (Some x) None ys e = absurd (none-some ys e)
 both_there (Some x) (Some xs) ys e = record { head = x; tail = xs; first = refl; rest = refl; all = sym (same_Some (x ∷ xs) ys e) }
 
-one_of_arg : (a : Option Arg) (t : Term) → option_and_then one_term a ≡ Some t → a ≡ Some (One t)
+pub one_of_arg : (a : Option Arg) (t : Term) → option_and_then one_term a ≡ Some t → a ≡ Some (One t)
 one_of_arg None t e = absurd (none-some t e)
 one_of_arg (Some (One u)) t e = ap (λ z. Some (One z)) (same_Some u t e)
 one_of_arg (Some (Many ts)) t e = absurd (none-some t e)

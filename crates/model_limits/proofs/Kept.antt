@@ -1,4 +1,4 @@
--- The problem of a text keeps the limits on kinds, integers and constraints.
+-- The problem of a text keeps the limits on kinds, integers, constraints and sets.
 use Rattle.std.proofs.Common.{◌≡◌, ℕ, ◌≤◌, List, [], ◌∷◌, ◌++◌, length, Some, refl, sym, ap, subst, ◌∙◌, arith}
 use Rattle.std.specs.Prelude.{All, Contains, sum_by, map}
 use Rattle.std.specs.List.{flat_map}
@@ -22,15 +22,19 @@ use Rattle.fzn_model.specs.Entities.{Naming, count_variables, naming_after}
 use Rattle.fzn_model.specs.ProblemOf.{constraints_after, goals_after, goals_in, kinds_in, kinds_of, names_in, problem_of, shown_after, the_goal}
 use Rattle.fzn_model.specs.Files.{IsProblemOfTree}
 use Rattle.model_limits.specs.Sizes.{KeepsSizes}
+use Rattle.model_limits.specs.SetLimits.{HasSmallUniverse, KeepsSetLimits}
 use Rattle.fzn_model.proofs.Among.{all_from_members}
 use Rattle.model_limits.proofs.FineNames.{AreSmallInItem, naming_fine}
 use Rattle.model_limits.proofs.FineConstraints.{bind_some}
 use Rattle.model_limits.proofs.NarrowScopes.{IsThin}
 use Rattle.model_limits.proofs.SmallKinds.{IsGoodKind, thin}
 use Rattle.model_limits.proofs.Splits.{cut, two}
-use Rattle.model_limits.proofs.KeptKinds.{few_bits, good_kinds, kinds_at, none_at, small_at, small_before}
+use Rattle.model_limits.proofs.KeptKinds.{AreFew, few_bits, good_kinds, kinds_at, none_at, small_at, small_before}
 use Rattle.model_limits.proofs.KeptGoals.{CanBeAdded, of_solve}
 use Rattle.model_limits.proofs.KeptConstraints.{count_constraints, each_within, how_many, short}
+use Rattle.model_limits.proofs.KeptCounts.{elements_kept, terms_kept}
+use Rattle.model_limits.proofs.KeptShown.{lengths_kept}
+use Rattle.model_limits.proofs.KeptSets.{constraints_kept, shown_kept}
 
 -- the parts of a tree's problem
 record HasParts (tree : Tree) (p : Problem) : Type 0 where
@@ -39,6 +43,7 @@ record HasParts (tree : Tree) (p : Problem) : Type 0 where
   one : Goal × List Kind
   known : kinds_of tree.items ≡ Some kinds
   constraints : each_after constraints_after [] tree.items ≡ Some p.constraints
+  shown : each_after shown_after [] tree.items ≡ Some p.shown
   goals : each_after goals_after [] tree.items ≡ Some of_goals
   the : the_goal of_goals ≡ Some one
   kinds_are : kinds ++ one.1 ≡ p.kinds
@@ -59,6 +64,7 @@ parts tree p e =
       one = o.0;
       known = k.1;
       constraints = c.1 ∙ ap (λ (q : Problem). Some q.constraints) same;
+      shown = s.1 ∙ ap (λ (q : Problem). Some q.shown) same;
       goals = g.1;
       the = o.1;
       kinds_are = ap (λ (q : Problem). q.kinds) same;
@@ -87,13 +93,17 @@ no_kind (forms.Array len is_var t i anns at items) h = absurd h
 no_kind (forms.Constraint i es anns) h = absurd h
 no_kind (forms.Solve anns g) h = refl
 
-pub sizes_kept : ((n : ℕ) → IsLeastWidth n (bit_width n)) → (tree : Tree) (p : Problem) → EndsInSolve tree
-    → ((item : Item) → Contains tree.items item → AreSmallInItem item) → IsProblemOfTree tree p → KeepsSizes p
-sizes_kept law tree p ends members is =
+-- the kinds of a tree's problem: those that its items declare, and one more for a constant objective
+record HasGoodKinds (tree : Tree) (p : Problem) : Type 0 where
+  it : HasParts tree p
+  few : AreFew (it.kinds ++ it.one.1)
+  good : All IsGoodKind (it.kinds ++ it.one.1)
+
+good_kinds_in : (tree : Tree) (p : Problem) → EndsInSolve tree → All AreSmallInItem tree.items → IsProblemOfTree tree p → HasGoodKinds tree p
+good_kinds_in tree p ends small is =
     let it = parts tree p is.problem in
-    let small : All AreSmallInItem tree.items = all_from_members AreSmallInItem tree.items members in
     let good : All IsGoodKind it.kinds = good_kinds tree is.faultless small it.kinds it.known in
-    let bits : sum_by counted_bits it.kinds ≤ 1048576 = few_bits tree is.faultless it.kinds it.known in
+    let few : AreFew it.kinds = few_bits tree is.faultless it.kinds it.known in
     let k = cut kinds_at [] ends.front (ends.last ∷ []) it.kinds (ap kinds_of (sym ends.items_are) ∙ it.known) in
     let kt = two (kinds_in ends.last.form) (Some []) k.back k.second in
     let none_there : [] ≡ kt.front = same_Some [] kt.front (sym (no_kind ends.last.form ends.solve) ∙ kt.first) in
@@ -109,25 +119,43 @@ sizes_kept law tree p ends members is =
     let last_goals : gt.front ≡ g.back = sym (append-nil gt.front) ∙ (ap (λ (xs : List (Goal × List Kind)). gt.front ++ xs) back_none ∙ sym gt.all) in
     let goals_are : gt.front ≡ it.of_goals = last_goals ∙ all_goals in
     let added : CanBeAdded it.kinds it.one.1 =
-    of_solve ends.front it.kinds before_known bits (naming_fine ends.front (small_before tree.items ends.front ends.last [] ends.items_are small))
+    of_solve ends.front it.kinds before_known few (naming_fine ends.front (small_before tree.items ends.front ends.last [] ends.items_are small))
     ends.last.at ends.last.form ends.solve (none_at tree is.faultless ends.front ends.last [] ends.items_are)
     (small_at tree.items ends.front ends.last [] ends.items_are small)
     it.of_goals (gt.first ∙ ap Some goals_are) it.one it.the in
-    let all : All IsGoodKind (it.kinds ++ it.one.1) = All-append IsGoodKind it.kinds it.one.1 good added.good in
-    let whole : All IsGoodKind p.kinds = subst (All IsGoodKind) it.kinds_are all in
-    let counted : length p.constraints ≡ count_constraints tree.items = how_many [] tree.items p.constraints it.constraints in
+    record { it = it; few = added.few; good = All-append IsGoodKind it.kinds it.one.1 good added.good }
+
+pub sizes_kept : ((n : ℕ) → IsLeastWidth n (bit_width n)) → (tree : Tree) (p : Problem) → EndsInSolve tree
+    → ((item : Item) → Contains tree.items item → AreSmallInItem item) → IsProblemOfTree tree p → KeepsSizes p
+sizes_kept law tree p ends members is =
+    let small : All AreSmallInItem tree.items = all_from_members AreSmallInItem tree.items members in
+    let h = good_kinds_in tree p ends small is in
+    let whole : All IsGoodKind p.kinds = subst (All IsGoodKind) h.it.kinds_are h.good in
+    let counted : length p.constraints ≡ count_constraints tree.items = how_many [] tree.items p.constraints h.it.constraints in
     let limit = (short tree is.faultless).1 in
-    let sum_is : sum_by counted_bits (it.kinds ++ it.one.1) ≡ sum_by counted_bits p.kinds = ap (sum_by counted_bits) it.kinds_are in
-    let sum_few : sum_by counted_bits (it.kinds ++ it.one.1) ≤ 1048576 = added.few in
     record {
       kinds = record {
-        legal = All-weaker IsGoodKind IsKind (λ k h. h.legal) p.kinds whole;
-        narrow = All-weaker IsGoodKind IsNarrow (λ k h. h.narrow) p.kinds whole;
-        bits = omega (arith, sum_is, sum_few);
+        legal = All-weaker IsGoodKind IsKind (λ k g. g.legal) p.kinds whole;
+        narrow = All-weaker IsGoodKind IsNarrow (λ k g. g.narrow) p.kinds whole;
+        bits = (subst AreFew h.it.kinds_are h.few).bits;
       };
-      numbers = All-weaker IsGoodKind HasSmallNumbers (λ k h. h.numbers) p.kinds whole;
-      constraints = subst (λ (ks : List Kind). All (IsWithinLimits ks) p.constraints) it.kinds_are
-          (each_within tree is.faultless small it.kinds it.one.1 it.known (All-weaker IsGoodKind IsThin (thin law) (it.kinds ++ it.one.1) all)
-          p.constraints it.constraints);
+      numbers = All-weaker IsGoodKind HasSmallNumbers (λ k g. g.numbers) p.kinds whole;
+      constraints = subst (λ (ks : List Kind). All (IsWithinLimits ks) p.constraints) h.it.kinds_are
+          (each_within tree is.faultless small h.it.kinds h.it.one.1 h.it.known (All-weaker IsGoodKind IsThin (thin law) (h.it.kinds ++ h.it.one.1) h.good)
+          p.constraints h.it.constraints);
       few = omega (arith, counted, limit);
+    }
+
+pub set_limits_kept : (tree : Tree) (p : Problem) → EndsInSolve tree
+    → ((item : Item) → Contains tree.items item → AreSmallInItem item) → IsProblemOfTree tree p → KeepsSetLimits p
+set_limits_kept tree p ends members is =
+    let h = good_kinds_in tree p ends (all_from_members AreSmallInItem tree.items members) is in
+    record {
+      universes = All-weaker IsGoodKind HasSmallUniverse (λ k g. g.universe) p.kinds (subst (All IsGoodKind) h.it.kinds_are h.good);
+      values = (subst AreFew h.it.kinds_are h.few).values;
+      terms = terms_kept tree is.faultless p.constraints h.it.constraints;
+      elements = elements_kept tree is.faultless p.constraints h.it.constraints;
+      constants = constraints_kept tree is.faultless p.constraints h.it.constraints;
+      shown = shown_kept tree is.faultless p.shown h.it.shown;
+      lengths = lengths_kept tree p.shown h.it.shown;
     }

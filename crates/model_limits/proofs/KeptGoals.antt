@@ -1,5 +1,5 @@
 -- The goal of a tree without faults: its one more kind is good, and there are not too many bits with it.
-use Rattle.std.proofs.Common.{◌≡◌, ℕ, ◌≤◌, List, [], ◌∷◌, ◌++◌, Some, ℤ, refl, ap, subst, ◌∙◌, inl, inr, arith}
+use Rattle.std.proofs.Common.{◌≡◌, ℕ, ◌≤◌, List, [], ◌∷◌, ◌++◌, Some, ℤ, refl, sym, ap, subst, ◌∙◌, inl, inr, arith}
 use Rattle.std.proofs.lemmas.Int.{ints}
 use Rattle.std.specs.Prelude.{All, sum_by}
 use Rattle.std.specs.List.Sorted.{IsStrictlySortedBy}
@@ -31,24 +31,22 @@ use Rattle.fzn_model.specs.declared.faults.ModelFault.TheVariants as faults
 use Rattle.fzn_model.specs.Items.{place_of}
 use Rattle.fzn_model.specs.Entities.{arg_of, count_variables, naming_after}
 use Rattle.fzn_model.specs.ProblemOf.{goal_of, goals_in, kinds_of, objective_of, objective_var, the_goal}
-use Rattle.fzn_model.specs.FaultsOf.{IsFaultAfter, IsObjective}
+use Rattle.fzn_model.specs.FaultsOf.{HaveTooManyBits, IsFaultAfter, IsObjective, integer_values}
 use Rattle.fzn_model.specs.FirstFault.{AreNone}
 use Rattle.fzn_model.proofs.Sound.{le_unless}
 use Rattle.model_limits.proofs.FineTerms.{AreFine, IsFine, IsFineNaming, IsSmallAt, expression_fine}
 use Rattle.model_limits.proofs.FineConstraints.{bind_some, map_some}
 use Rattle.model_limits.proofs.Splits.{all_front}
 use Rattle.model_limits.proofs.SmallKinds.{IsGoodKind}
+use Rattle.model_limits.proofs.KeptKinds.{AreFew}
 
--- what is added behind these kinds is good, and all of them have few bits
+-- what is added behind these kinds is good, and all of them have few bits and few values
 pub record CanBeAdded (kinds new : List Kind) : Type 0 where
   pub good : All IsGoodKind new
-  pub few : sum_by counted_bits (kinds ++ new) ≤ 1048576
+  pub few : AreFew (kinds ++ new)
 
-nothing : (kinds : List Kind) → sum_by counted_bits kinds ≤ 1048576 → CanBeAdded kinds []
-nothing kinds few = record {
-  good = All-nil IsGoodKind;
-  few = let e : sum_by counted_bits (kinds ++ []) ≡ sum_by counted_bits kinds = ap (sum_by counted_bits) (append-nil kinds) in omega (arith, e, few);
-}
+nothing : (kinds : List Kind) → AreFew kinds → CanBeAdded kinds []
+nothing kinds few = record { good = All-nil IsGoodKind; few = subst AreFew (sym (append-nil kinds)) few }
 
 one_ascends : (x : ℤ) → IsAscending (x ∷ [])
 unfolding IsStrictlySortedBy
@@ -60,10 +58,30 @@ one_value x small = record {
   narrow = let s : span (x ∷ []) ≤ 65535 = omega (arith, ints) in s;
   numbers = All-cons IsSmallNumber x [] small (All-nil IsSmallNumber);
   few = tt;
+  universe = tt;
 }
 
-module _ (before : List Item) (kinds : List Kind) (known : kinds_of before ≡ Some kinds) (few : sum_by counted_bits kinds ≤ 1048576)
+module _ (before : List Item) (kinds : List Kind) (known : kinds_of before ≡ Some kinds) (few : AreFew kinds)
     (fine : IsFineNaming (count_variables before) (naming_after before)) where
+  -- the unnamed variable of a constant objective is not too much
+  one_more : (at : ℕ) (form : Form) (e : Expr) → AreNone (IsFaultAfter before (record { at = at; form = form })) → IsObjective form e
+      → (x : ℤ) → arg_of (naming_after before) e ≡ Some (One (Const (value.Int x))) → AreFew (kinds ++ kind.Int (x ∷ []) ∷ [])
+  one_more at form e none objective x is =
+      let told : HaveTooManyBits (kinds ++ kind.Int (x ∷ []) ∷ []) → ⊥ = λ many. none (faults.TooManyBits (place_of e)) (inr (inr (inr (record {
+        expression = e;
+        objective = objective;
+        number = x;
+        constant = is;
+        kinds = kinds;
+        known = known;
+        many = many;
+        place = refl;
+      })))) in
+      record {
+        bits = le_unless 1048576 (sum_by counted_bits (kinds ++ kind.Int (x ∷ []) ∷ [])) (λ w. told (inl w));
+        values = le_unless 67108864 (sum_by integer_values (kinds ++ kind.Int (x ∷ []) ∷ [])) (λ w. told (inr w));
+      }
+
   of_arg : (at : ℕ) (form : Form) (e : Expr) → AreNone (IsFaultAfter before (record { at = at; form = form })) → IsObjective form e
       → (a : Arg) → arg_of (naming_after before) e ≡ Some a → AreFine (count_variables before) a
       → (o : VarId × List Kind) → objective_var (count_variables before) a ≡ Some o → CanBeAdded kinds o.1
@@ -75,16 +93,7 @@ module _ (before : List Item) (kinds : List Kind) (known : kinds_of before ≡ S
       let f : IsFine (count_variables before) (Const (value.Int x)) = All-head (IsFine (count_variables before)) (Const (value.Int x)) [] h in
       subst (λ (p : VarId × List Kind). CanBeAdded kinds p.1) (same_Some (record { 0 = count_variables before }, kind.Int (x ∷ []) ∷ []) o made) (record {
         good = All-cons IsGoodKind (kind.Int (x ∷ [])) [] (one_value x f.small) (All-nil IsGoodKind);
-        few = le_unless 1048576 (sum_by counted_bits (kinds ++ kind.Int (x ∷ []) ∷ [])) (λ w. none (faults.TooManyBits (place_of e)) (inr (inr (inr (record {
-          expression = e;
-          objective = objective;
-          number = x;
-          constant = is;
-          kinds = kinds;
-          known = known;
-          many = inl w;
-          place = refl;
-        })))));
+        few = one_more at form e none objective x is;
       })
 
   of_objective : (at : ℕ) (form : Form) (e : Expr) → AreNone (IsFaultAfter before (record { at = at; form = form })) → IsObjective form e

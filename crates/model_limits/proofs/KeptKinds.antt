@@ -18,7 +18,7 @@ use Rattle.fzn_model.specs.Lists.{each_after}
 use Rattle.fzn_model.specs.Items.{is_variable}
 use Rattle.fzn_model.specs.Entities.{count_variables}
 use Rattle.fzn_model.specs.ProblemOf.{kind_of, kinds_in, kinds_of}
-use Rattle.fzn_model.specs.FaultsOf.{HasNoFault, IsFaultAfter}
+use Rattle.fzn_model.specs.FaultsOf.{HasNoFault, IsFaultAfter, integer_values}
 use Rattle.fzn_model.specs.FirstFault.{AreNone}
 use Rattle.fzn_model.proofs.MoreKinds.{kinds_more}
 use Rattle.fzn_model.proofs.Sound.{le_unless}
@@ -27,6 +27,11 @@ use Rattle.model_limits.proofs.FineNames.{AreSmallInItem, one_if}
 use Rattle.model_limits.proofs.FineConstraints.{map_some}
 use Rattle.model_limits.proofs.Splits.{all_back, all_front, by_prefixes, each_all, two}
 use Rattle.model_limits.proofs.SmallKinds.{IsGoodKind, good_kind}
+
+-- at most so many bits, and so many values of integer variables
+pub record AreFew (kinds : List Kind) : Type 0 where
+  pub bits : sum_by counted_bits kinds ≤ 1048576
+  pub values : sum_by integer_values kinds ≤ 67108864
 
 abbrev pub kinds_at : List Item → Item → Option (List Kind)
 kinds_at before item = kinds_in item.form
@@ -88,34 +93,37 @@ counted_from done (item ∷ items) kinds is =
 pub counted : (items : List Item) (kinds : List Kind) → kinds_of items ≡ Some kinds → length kinds ≡ count_variables items
 counted items kinds is = counted_from [] items kinds is
 
--- ---- how many bits they have
+-- ---- how many bits they have, and how many values
 
 abbrev HasFewBits : List Item → Type 0
-HasFewBits items = (kinds : List Kind) → kinds_of items ≡ Some kinds → sum_by counted_bits kinds ≤ 1048576
+HasFewBits items = (kinds : List Kind) → kinds_of items ≡ Some kinds → AreFew kinds
 
 unmoved : (before : List Item) (item : Item) → kinds_in item.form ≡ Some [] → HasFewBits before → HasFewBits (before ++ item ∷ [])
 unmoved before item none few kinds is =
     let t = two (kinds_of before) (kinds_in item.form) kinds (sym (kinds_more before item) ∙ is) in
-    let old : sum_by counted_bits t.front ≤ 1048576 = few t.front t.first in
+    let old : AreFew t.front = few t.front t.first in
     let nothing : [] ≡ t.back = same_Some [] t.back (sym none ∙ t.second) in
     let same : kinds ≡ t.front = t.all ∙ (ap (λ ks. t.front ++ ks) (sym nothing) ∙ append-nil t.front) in
-    let e : sum_by counted_bits kinds ≡ sum_by counted_bits t.front = ap (sum_by counted_bits) same in
-    omega (arith, old, e)
+    subst AreFew (sym same) old
 
 few_bits_next : (before : List Item) (at : ℕ) (form : Form) → AreNone (IsFaultAfter before (record { at = at; form = form })) → HasFewBits before
     → HasFewBits (before ++ record { at = at; form = form } ∷ [])
 few_bits_next before at forms.Predicate none few = unmoved before (record { at = at; form = forms.Predicate }) refl few
 few_bits_next before at (forms.Param t ident anns e) none few = unmoved before (record { at = at; form = forms.Param t ident anns e }) refl few
 few_bits_next before at (forms.Variable t ident anns e) none few =
-    λ kinds is. le_unless 1048576 (sum_by counted_bits kinds)
-    (λ w. none (faults.TooManyBits ident.at) (inr (inl (record { kinds = kinds; known = is; many = inl w; place = refl }))))
+    λ kinds is. record {
+      bits = le_unless 1048576 (sum_by counted_bits kinds)
+          (λ w. none (faults.TooManyBits ident.at) (inr (inl (record { kinds = kinds; known = is; many = inl w; place = refl }))));
+      values = le_unless 67108864 (sum_by integer_values kinds)
+          (λ w. none (faults.TooManyBits ident.at) (inr (inl (record { kinds = kinds; known = is; many = inr w; place = refl }))));
+    }
 few_bits_next before at (forms.Array len is_var t ident anns items_at items) none few =
     unmoved before (record { at = at; form = forms.Array len is_var t ident anns items_at items }) refl few
 few_bits_next before at (forms.Constraint ident es anns) none few = unmoved before (record { at = at; form = forms.Constraint ident es anns }) refl few
 few_bits_next before at (forms.Solve anns goal) none few = unmoved before (record { at = at; form = forms.Solve anns goal }) refl few
 
-pub few_bits : (tree : Tree) → HasNoFault tree → (kinds : List Kind) → kinds_of tree.items ≡ Some kinds → sum_by counted_bits kinds ≤ 1048576
+pub few_bits : (tree : Tree) → HasNoFault tree → (kinds : List Kind) → kinds_of tree.items ≡ Some kinds → AreFew kinds
 few_bits tree faultless =
     by_prefixes HasFewBits tree.items
-    (λ kinds is. let e : sum_by counted_bits kinds ≡ 0 = ap (sum_by counted_bits) (sym (same_Some [] kinds is)) in omega (arith, e))
+    (λ kinds is. subst AreFew (same_Some [] kinds is) (record { bits = omega arith; values = omega arith }))
     (λ front item back split few. few_bits_next front item.at item.form (none_at tree faultless front item back split) few)

@@ -7,5 +7,9 @@ pub mod NarrowEqualities
 pub mod SmallKinds
 pub mod KeptKinds
 pub mod KeptConstraints
+pub mod KeptCounts
+pub mod KeptShown
+pub mod SmallSets
+pub mod KeptSets
 pub mod KeptGoals
 pub mod Kept

@@ -1,7 +1,7 @@
 -- The kinds of the variables of a text without faults are legal, narrow and small.
 use Rattle.std.proofs.Common.{◌≡◌, ℕ, ◌≤◌, List, [], ◌∷◌, length, Option, Some, None, ℤ, refl, sym, ap, subst, ◌∙◌, inl, inr, arith}
 use Rattle.std.proofs.lemmas.Int.{ints}
-use Rattle.std.specs.Prelude.{All, IfSome, ⊤, ◌≤ℤ◌}
+use Rattle.std.specs.Prelude.{All, IfSome, ⊤, ◌≤ℤ◌, unsigned_abs}
 use Rattle.std.proofs.lemmas.Option.{none-some, same_Some}
 use Rattle.std.proofs.lemmas.List.Elements.{All-cons, All-contains, All-head, All-nil, All-tail}
 use Rattle.fzn_parser.specs.declared.tree.Num.{Num}
@@ -35,6 +35,7 @@ use Rattle.fzn_model.specs.FaultsOf.{IsFaultAfter}
 use Rattle.fzn_model.specs.FirstFault.{AreNone}
 use Rattle.fzn_model.proofs.Among.{all_from_members}
 use Rattle.fzn_model.proofs.Sound.{le_unless}
+use Rattle.model_limits.specs.SetLimits.{HasSmallUniverse, IsSmallElement}
 use Rattle.model_limits.proofs.FineTerms.{IsSmallAt, both_there, small_number}
 use Rattle.model_limits.proofs.FineConstraints.{map_some}
 
@@ -96,12 +97,13 @@ pub record IsGoodKind (k : Kind) : Type 0 where
   pub narrow : IsNarrow k
   pub numbers : HasSmallNumbers k
   pub few : HasFewElements k
+  pub universe : HasSmallUniverse k
 
 pub good_kind : (before : List Item) (at : ℕ) (t : TypeExpr) (ident : Ident) (anns : List Ann) (e : Option Expr)
     → AreNone (IsFaultAfter before (record { at = at; form = forms.Variable t ident anns e })) → All IsSmallAt (numbers_in_type t.form)
     → (form : TypeForm) → t.form ≡ form → (k : Kind) → kind_of form ≡ Some k → IsGoodKind k
 good_kind before at t ident anns e none h types.Bool q k is =
-    subst IsGoodKind (same_Some kind.Bool k is) (record { legal = tt; narrow = tt; numbers = tt; few = tt })
+    subst IsGoodKind (same_Some kind.Bool k is) (record { legal = tt; narrow = tt; numbers = tt; few = tt; universe = tt })
 good_kind before at t ident anns e none h types.Int q k is = absurd (none-some k is)
 good_kind before at t ident anns e none h types.Float q k is = absurd (none-some k is)
 good_kind before at t ident anns e none h types.SetOfInt q k is = absurd (none-some k is)
@@ -113,15 +115,22 @@ good_kind before at t ident anns e none h (types.Within s) q k is =
       narrow = le_unless 65535 (span m.0) (λ w. none (faults.IntTooWide t.at) (inr (inl (m.0, (s, q, m.1, refl), w))));
       numbers = small.0;
       few = tt;
+      universe = tt;
     })
 good_kind before at t ident anns e none h (types.SetWithin s) q k is =
     let m = map_some (elements_of s) kind.Set k is in
     let small = elements_small s m.0 m.1 (subst (λ (f : TypeForm). All IsSmallAt (numbers_in_type f)) q h) in
+    let few : length m.0 ≤ 512 = le_unless 512 (length m.0) (λ w. none (faults.SetTooWide t.at) (inr (inl (m.0, (s, q, m.1, refl), w)))) in
     subst IsGoodKind m.2 (record {
       legal = small.1;
       narrow = tt;
       numbers = tt;
-      few = le_unless 512 (length m.0) (λ w. none (faults.SetTooWide t.at) (inr (inl (m.0, (s, q, m.1, refl), w))));
+      few = few;
+      universe = (
+        few,
+        all_from_members IsSmallElement m.0 (λ x k. le_unless 1000000 (unsigned_abs x)
+            (λ w. none (faults.ElementRange t.at) (inr (inl (m.0, (s, q, m.1, refl), (k.0, x, k.1, k.2, w)))))),
+      );
     })
 
 -- a good kind has few bits

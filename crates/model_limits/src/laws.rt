@@ -5,6 +5,7 @@ ghost use Rattle.set_meaning.specs.declared.problems.Problem.{Problem as AnyProb
 ghost use Rattle.problem_limits.specs.Limits.{KeepsLimits};
 ghost use Rattle.fzn_model.specs.Files.{IsProblemOf};
 ghost use Rattle.model_limits.specs.Sizes.{KeepsSizes};
+ghost use Rattle.model_limits.specs.SetLimits.{KeepsSetLimits};
 
 use bit_layout::widths_are_least;
 use fzn_parser::trees_are_in_order;
@@ -18,6 +19,14 @@ pub fn problems_of_texts_keep_limits(text: &[u8], p: &Problem)
 {
     problems_of_texts_are_problems(text, p);
     problems_of_texts_keep_sizes();
+}
+
+/// Does nothing. Its contract is the law that the problem of a text has universes of at most 512 elements, each at most
+/// 1,000,000 in size, and keeps the limits on all values, all terms and all elements of constant sets together.
+pub fn problems_of_texts_have_small_sets(text: &[u8], p: &Problem)
+    ensures { IsProblemOf text.now p.now → KeepsSetLimits p.now }
+{
+    trees_are_in_order();
 }
 
 /// The limits on sizes alone.

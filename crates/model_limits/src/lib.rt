@@ -3,4 +3,4 @@
 
 mod laws;
 
-pub use laws::problems_of_texts_keep_limits;
+pub use laws::{problems_of_texts_have_small_sets, problems_of_texts_keep_limits};

@@ -1,6 +1,6 @@
 use Rattle.std.proofs.Common.{◌≡◌, ◌*◌, ◌≤◌, take, sum_by}
 use Rattle.fzn_model.specs.FaultsOf.{set_size}
-use Rattle.fzn_model.proofs.known.set_sizes.Given as goal
+use Rattle.fzn_model.proofs.counting.set_sizes.Given as goal
 
 abbrev pub invariant-loop-term : goal.invariant-loop-term
 invariant-loop-term l = record {
