@@ -1,0 +1,5 @@
+mod Exact
+mod Fewer
+mod Puts
+mod Replaced
+mod Rows

@@ -1,0 +1,5 @@
+pub mod Forms
+pub mod Reaching
+pub mod Shapes
+pub mod SumTables
+pub mod Weights
