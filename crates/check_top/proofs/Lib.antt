@@ -1,0 +1,3 @@
+pub mod LogsRead
+pub mod Runs
+pub mod OneVerdict
