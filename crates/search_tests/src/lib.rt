@@ -3,3 +3,5 @@
 
 #[cfg(test)]
 mod roots;
+#[cfg(test)]
+mod writers;
