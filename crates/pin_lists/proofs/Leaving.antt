@@ -16,6 +16,7 @@ use Rattle.node_reclaim.specs.Holders.{Gains, AreHeld, MeansTheSame}
 use Rattle.node_reclaim.specs.Reclaim.{Reclaims}
 use Rattle.pin_lists.specs.Units.{PinnedAreLive, Moves, StoodBefore, AllAre, UnitsLeave, Collects}
 use Rattle.pin_lists.proofs.Counting.{times-append}
+use Rattle.pin_lists.proofs.Reached.{still_reached}
 
 -- ---- what is held
 
@@ -215,4 +216,5 @@ collects a b law is = record {
   kept = λ rs h. law a b rs is h;
   stood = λ i live. (i, is.means.live (Node i) live, is.means.words (Node i) live);
   swept = is.only;
+  reached = λ i live. still_reached a b is i (is.only i live);
 }

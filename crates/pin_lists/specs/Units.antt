@@ -44,7 +44,7 @@ pub record UnitsLeave (P : Words → Type 0) (old new : PoolState) (before after
   pub kept : KeepsHeld old new before
   pub sets : AllAre (table old.arena) (table new.arena) P
 
--- what a collection leaves: of what was there just the nodes that pins reach
+-- what a collection leaves: of what was there just the nodes that pins reach, and they reach them still
 pub record Collects (old new : PoolState) : Type 0 where
   pub reduced : IsReduced (table new.arena)
   pub limit : new.arena.limit ≡ old.arena.limit
@@ -52,3 +52,4 @@ pub record Collects (old new : PoolState) : Type 0 where
   pub kept : (rs : List Ref) → AreHeld old rs → MeansTheSame (table old.arena) (table new.arena) rs
   pub stood : (i : NodeId) → IsLive (table new.arena) (Node i) → StoodBefore (table old.arena) (has (table new.arena) (Node i))
   pub swept : (i : NodeId) → IsLive (table new.arena) (Node i) → IsReached old i
+  pub reached : (i : NodeId) → IsLive (table new.arena) (Node i) → IsReached new i
