@@ -1,0 +1,14 @@
+pub mod Lists
+pub mod Places
+pub mod Sides
+pub mod Resolvents
+pub mod Moving
+pub mod Newest
+pub mod Made
+pub mod Looping
+pub mod Arms
+pub mod Differing
+pub mod Trails
+pub mod Starting
+pub mod Units
+pub mod OneSide

@@ -1,0 +1,4 @@
+pub mod Running
+pub mod Nodes
+pub mod Work
+pub mod Laws
