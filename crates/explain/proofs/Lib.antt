@@ -1,0 +1,13 @@
+pub mod Scanning
+pub mod Stopping
+pub mod Undoing
+pub mod Passing
+pub mod Pins
+pub mod Beyond
+pub mod Turning
+pub mod Onward
+pub mod Counting
+pub mod StillPinned
+pub mod Frames
+pub mod Derived
+pub mod Endings
