@@ -1,0 +1,9 @@
+pub mod Narrowings
+pub mod Settling
+pub mod Constraints
+pub mod Boxes
+pub mod Moving
+pub mod Trying
+pub mod Stirring
+pub mod Turns
+pub mod Circling

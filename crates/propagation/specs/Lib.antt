@@ -1,0 +1,4 @@
+pub mod Quiet
+pub mod Nodes
+pub mod Work
+pub mod Laws
