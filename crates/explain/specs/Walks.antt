@@ -1,5 +1,5 @@
--- What the walk from a conflict leaves: the trail, and the box that it derived. The walk is that of search_rules, read on
--- the trail and the boxes.
+-- What the walk from a conflict leaves: the trail, and the box that it derived. The walk is that of search_rules, read
+-- on the trail and the boxes.
 -- This project's own (conflict analysis to a first unique implication point, with boxes in place of clauses).
 use Rattle.std.specs.Prelude.{◌≡◌, ℕ, Bool, List, []}
 use Rattle.set_meaning.specs.declared.kinds.Value.{Value}

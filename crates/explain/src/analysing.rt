@@ -57,9 +57,9 @@ pub enum AnalyseStop {
 /// problem with its layout.
 ///
 /// For each entry that is passed it is asked once whether its domain from before lies in a side, without a node; for
-/// each that matters one reason box and one resolvent are made. Such a resolvent is a unit: where it finds no room, what
-/// no pin reaches is reclaimed, and it is tried once more; a second refusal is Full. After Memory the trail and the
-/// boxes can be released or left.
+/// each that matters one reason box and one resolvent are made. Such a resolvent is a unit: where it finds no room,
+/// what no pin reaches is reclaimed, and it is tried once more; a second refusal is Full. After Memory the trail and
+/// the boxes can be released or left.
 pub fn analyse(
     alloc: Global,
     p: &Problem,
@@ -76,18 +76,19 @@ pub fn analyse(
     requires conflict { let l = layout.now in let t = table ops.old.arena in
         IsConflictBox (problem_of p.now) (boxes_of l t boxes.now) (family l t trail.old.domains)
         (box_of_conflict p.now l t boxes.now trail.old.domains conflict) }
-    requires held { AreHeld ops.old (pinned_by compiled.now ++ (held trail.old ++ stored_sets boxes.now)) }
+    requires held { let rs = held trail.old ++ stored_sets boxes.now in
+        AreHeld ops.old (pinned_by compiled.now ++ rs) }
     ensures learned { let l = layout.now in let t = table ops.old.arena in let u = table ops.new.arena in
         IfOk result (IsLearnedFrom p.now l t u boxes.now trail.old trail.new) }
-    ensures pinned { IfOk result (λ learned.
-        UnitsLeave (IsOfVariable layout.now) ops.old ops.new (held trail.old) (held trail.new ++ held_by learned)) }
+    ensures pinned { let s = trail.new in IfOk result (λ learned.
+        UnitsLeave (IsOfVariable layout.now) ops.old ops.new (held trail.old) (held s ++ held_by learned)) }
 
     // What is left where there was no room for a resolvent.
     ensures stopped { let l = layout.now in let t = table ops.old.arena in let u = table ops.new.arena in
         IfErr result (IsStopped p.now l t u boxes.now trail.old trail.new
         (box_of_conflict p.now l t boxes.now trail.old.domains conflict)) }
-    ensures held_on { IfErr result (λ stop.
-        UnitsLeave (IsOfVariable layout.now) ops.old ops.new (held trail.old) (held trail.new ++ held_at stop)) }
+    ensures held_on { let s = trail.new in IfErr result (λ stop.
+        UnitsLeave (IsOfVariable layout.now) ops.old ops.new (held trail.old) (held s ++ held_at stop)) }
     ensures full { IfErr result (λ stop. IsFullAt layout.now stop ops.new) }
 {
     // What holds of walks and of compiled problems.
@@ -146,7 +147,8 @@ fn derive(
     requires conflict { let l = layout.now in let t = table ops.old.arena in
         IsConflictBox (problem_of p.now) (boxes_of l t boxes.now) (family l t trail.old.domains)
         (box_of_conflict p.now l t boxes.now trail.old.domains conflict) }
-    requires held { AreHeld ops.old (pinned_by compiled.now ++ (held trail.old ++ stored_sets boxes.now)) }
+    requires held { let rs = held trail.old ++ stored_sets boxes.now in
+        AreHeld ops.old (pinned_by compiled.now ++ rs) }
     requires none { running.old ≡ [] }
     ensures derived { let l = layout.now in let t = table ops.old.arena in let u = table ops.new.arena in
         let first = box_of_conflict p.now l t boxes.now trail.old.domains conflict in

@@ -58,7 +58,8 @@ pub(crate) fn go_back(
     requires compiled { IsCompiled layout.now p.now (table ops.old.arena) compiled.now }
     requires trail { IsTrailOf p.now layout.now (table ops.old.arena) boxes.now trail.old }
     requires running { AreRunning layout.now (table ops.old.arena) running.old }
-    requires conflict { let l = layout.now in let t = table ops.old.arena in IsConflictBox (problem_of p.now)
+    requires conflict { let l = layout.now in let t = table ops.old.arena in
+        IsConflictBox (problem_of p.now)
         (boxes_of l t boxes.now) (family l t trail.old.domains) (family l t running.old) }
     requires held { AreHeld ops.old (pinned_on_walk compiled.now trail.old boxes.now running.old) }
     ensures derived { let l = layout.now in let t = table ops.old.arena in let u = table ops.new.arena in
@@ -118,8 +119,8 @@ fn back_from(
     requires start { AreInitialDomains layout.now (table ops.old.arena) start.now }
     requires running { AreRunning layout.now (table ops.old.arena) running.now }
     requires held { AreHeld ops.old (held trail.old) }
-    ensures level { let l = layout.now in let t = table ops.old.arena in let b = family l t running.now in
-        (stored : List StoredBox)
+    ensures level { let l = layout.now in let t = table ops.old.arena in
+        let b = family l t running.now in (stored : List StoredBox)
         → IfOk result (IsNewestOther (entries_of l t stored trail.old.entries) b v.0) }
     ensures undone { IfOk result (λ level. IsUndoneTo level trail.old trail.new) }
     ensures only { ops.new ≡ record ops.old { counts = ops.new.counts } }
