@@ -1,0 +1,2 @@
+pub mod KindSamples
+pub mod Gathering
