@@ -1,5 +1,5 @@
 -- What stays of the domains and of the compiled problem while units are done.
-use Rattle.std.proofs.Common.{◌≡◌, ℕ, ◌+◌, ◌<◌, ◌≤◌, Bool, true, List, [], ◌∷◌, ◌++◌, Option, None, Some, refl, sym, ap, ◌∙◌, subst, append-nil, arith, Contains}
+use Rattle.std.proofs.Common.{◌≡◌, ℕ, ◌<◌, Bool, true, List, [], ◌++◌, Option, None, Some, refl, sym, ap, ◌∙◌, subst, append-nil, arith}
 use Rattle.std.specs.Prelude.{slice_get}
 use Rattle.std.specs.Option.{option_map_or}
 use Rattle.std.proofs.Math.Path.{fun_ext}
@@ -7,7 +7,6 @@ use Rattle.std.proofs.lemmas.List.Elements.{Contains-append_left, Contains-appen
 use Rattle.set_meaning.specs.declared.kinds.Value.{Value}
 use Rattle.set_meaning.specs.declared.problems.Problem.{Problem}
 use Rattle.bit_layout.specs.Order.{LayoutState}
-use Rattle.diagram_arena.specs.declared.nodes.NodeId.{NodeId}
 use Rattle.diagram_arena.specs.declared.nodes.Ref.{Ref}
 use Rattle.diagram_arena.specs.Table.{Words, Table, IsReduced}
 use Rattle.diagram_arena.specs.Arena.{table}
@@ -25,7 +24,7 @@ use Rattle.propagators.specs.Compiled.{CompiledState, pinned_by, IsCompiled}
 use Rattle.propagators.proofs.Moving.{listed_at, compiled_same}
 use Rattle.learn_search.specs.declared.narrowing.Taken.{Taken}
 use Rattle.learn_search.specs.declared.narrowing.Taken.TheVariants as taken
-use Rattle.learn_search.specs.Way.{IsOnWay, left, IsUnchanged, IsQuietAt, IsNarrowing, IsTaken}
+use Rattle.learn_search.specs.Way.{IsOnWay, left, IsTaken}
 
 -- ---- domains that mean the same
 

@@ -7,3 +7,7 @@ pub mod Stirring
 pub mod Sizes
 pub mod Starting
 pub mod Spending
+pub mod Begins
+pub mod Answers
+pub mod Reaching
+pub mod Ending

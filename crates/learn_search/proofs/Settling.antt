@@ -1,14 +1,13 @@
 -- What an exact step leaves quiet: its own constraint, and each that reads none of the variables it narrowed.
-use Rattle.std.proofs.Common.{◌≡◌, ◌≢◌, ℕ, zero, suc, ◌<◌, Bool, true, false, List, [], ◌∷◌, length, set, Some, refl, sym, ap, ◌∙◌, subst, inl, inr, arith, Contains}
+use Rattle.std.proofs.Common.{◌≡◌, ℕ, zero, suc, ◌<◌, Bool, true, List, [], ◌∷◌, length, set, Some, refl, sym, ap, ◌∙◌, subst, inl, inr, arith, Contains}
 use Rattle.std.specs.Prelude.{◌⊎◌, slice_get}
-use Rattle.std.proofs.lemmas.Bool.{cases_eq, cases_Bool, both_ways}
+use Rattle.std.proofs.lemmas.Bool.{cases_eq}
 use Rattle.std.proofs.lemmas.List.{length-set, get_or-set_same}
 use Rattle.std.proofs.lemmas.Option.{slice_get-get_or}
 use Rattle.set_meaning.specs.declared.problems.VarId.{VarId}
 use Rattle.bit_layout.proofs.Rising.{nothing_in_empty, in_cons, in_head, in_tail}
 use Rattle.diagram_arena.specs.declared.nodes.Ref.{Ref}
 use Rattle.search_rules.specs.Problem as rules
-use Rattle.search_rules.proofs.StepLemmas.{extends_in}
 use Rattle.exact_steps.specs.Domains.{variable}
 use Rattle.exact_steps.specs.Steps.{narrowed_in}
 use Rattle.learn_search.specs.Way.{put_each}

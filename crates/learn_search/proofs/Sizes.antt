@@ -1,8 +1,8 @@
 -- The words of a domain's values, and the rows of the root family.
-use Rattle.std.proofs.Common.{◌≡◌, ◌≢◌, ℕ, zero, suc, ◌+◌, ◌<◌, ◌≤◌, eqb, Bool, true, false, ◌&&◌, ◌||◌, ◌↔◌, ◌⊎◌, List, [], ◌∷◌, ◌++◌, length, map, get_or, Option, Some, None, refl, sym, ap, ◌∙◌, subst, inl, inr, arith, Contains}
+use Rattle.std.proofs.Common.{◌≡◌, ℕ, zero, suc, ◌+◌, ◌<◌, eqb, Bool, true, ◌↔◌, ◌⊎◌, List, [], ◌∷◌, ◌++◌, length, map, get_or, Some, None, refl, sym, ap, ◌∙◌, subst, inl, inr, arith}
 use Rattle.std.specs.Prelude.{slice_get, IsSomeAnd}
 use Rattle.std.specs.Option.{option_map_or}
-use Rattle.std.proofs.lemmas.Bool.{or_left, or_right, eq-eqb}
+use Rattle.std.proofs.lemmas.Bool.{or_left, eq-eqb}
 use Rattle.std.proofs.lemmas.Option.{slice_get-get_or}
 use Rattle.set_meaning.specs.declared.kinds.Kind.{Kind}
 use Rattle.set_meaning.specs.declared.kinds.Kind.TheVariants as kind
@@ -10,33 +10,32 @@ use Rattle.set_meaning.specs.declared.kinds.Value.{Value}
 use Rattle.set_meaning.specs.declared.problems.VarId.{VarId}
 use Rattle.set_meaning.specs.declared.problems.Bounds.{Bounds}
 use Rattle.set_meaning.specs.declared.problems.Problem.{Problem}
-use Rattle.set_meaning.specs.Kinds.{IsAssignment, InKind}
+use Rattle.set_meaning.specs.Kinds.{InKind}
 use Rattle.bit_layout.specs.Words.{width_of, word_of, IsValueOf}
-use Rattle.bit_layout.specs.Order.{LayoutState, IsLayout, width_at, word_at, IsValueAt}
+use Rattle.bit_layout.specs.Order.{LayoutState, IsLayout, IsValueAt}
 use Rattle.bit_layout.proofs.Rising.{in_head}
 use Rattle.diagram_arena.specs.declared.nodes.Ref.{Ref}
 use Rattle.diagram_arena.specs.declared.nodes.Ref.TheVariants.{Zero}
-use Rattle.diagram_arena.specs.Table.{Word, Table, has, IsLive, IsReduced}
-use Rattle.diagram_arena.specs.Reach.{Bits, among, ReachesOnly}
+use Rattle.diagram_arena.specs.Table.{Word, Table, has, IsReduced}
+use Rattle.diagram_arena.specs.Reach.{among, ReachesOnly}
 use Rattle.diagram_arena.specs.Part.{with_bit}
 use Rattle.diagram_arena.proofs.Reach.{reaches_only}
-use Rattle.diagram_view.specs.Words.{ListWords, word_over, words_over}
-use Rattle.diagram_view.specs.Residuals.{IsResidualCount, CountsResiduals}
+use Rattle.diagram_view.specs.Words.{word_over, words_over}
+use Rattle.diagram_view.specs.Residuals.{CountsResiduals}
 use Rattle.diagram_view.proofs.Over.{Rises}
 use Rattle.diagram_view.proofs.Bits.{rises_from, with_bit-here, with_bit-other, among_tail}
 use Rattle.search_rules.specs.Problem as rules
 use Rattle.search_rules.proofs.StepLemmas.{steps_reach_root}
-use Rattle.scope_words.specs.Words.{bits_at, read, Gives, AreBitsOf, AreWordsOf, IsDiagramOf, IsBitOf}
+use Rattle.scope_words.specs.Words.{bits_at, read, AreBitsOf}
 use Rattle.scope_words.proofs.Bits.{length-bits_at}
 use Rattle.exact_steps.specs.Domains.{variable, AtVariable, is_initial, word_of_value, values_in, IsDomain, family}
-use Rattle.exact_steps.proofs.Values.{some_and, some_and_from, same_some, both_are, both_from, some_list, initial_kind}
-use Rattle.exact_steps.proofs.Readings.{value_in_word, gives_value, given_at}
+use Rattle.exact_steps.proofs.Values.{some_and, some_and_from, same_some, both_are, some_list, initial_kind}
+use Rattle.exact_steps.proofs.Readings.{gives_value, given_at}
 use Rattle.exact_steps.proofs.Sets.{contains_among}
 use Rattle.exact_steps.proofs.Wanted.{words_depend, bits_of_one, family_at}
-use Rattle.value_bounds.specs.Bounds.{AreBoundsOf}
 use Rattle.problem_rules.specs.Posed.{problem_of}
-use Rattle.learn_search.specs.Roots.{AreWordsOfValues, IsSizeOf, IsRowOf, AreRowsOf}
-use Rattle.learn_search.specs.Way.{IsOnWay, IsQuietAt, IsRootFamily, IsRowAt, AreRowsAt}
+use Rattle.learn_search.specs.Roots.{IsSizeOf, AreRowsOf}
+use Rattle.learn_search.specs.Way.{IsRootFamily, IsRowAt, AreRowsAt}
 
 -- ---- the values at rising bits of the word that they spell
 

@@ -1,5 +1,5 @@
 -- The queue as it is made of the compiled scopes, and as the readers of narrowed variables are flagged.
-use Rattle.std.proofs.Common.{◌≡◌, ◌≢◌, ℕ, ◌+◌, ◌<◌, ◌≤◌, List, [], ◌∷◌, ◌++◌, length, get_or, take, map, Some, refl, sym, ap, ◌∙◌, subst, inl, inr, arith, Contains}
+use Rattle.std.proofs.Common.{◌≡◌, ◌≢◌, ℕ, ◌+◌, ◌<◌, ◌≤◌, List, [], ◌∷◌, ◌++◌, length, get_or, take, Some, refl, sym, ap, ◌∙◌, subst, inl, inr, Contains}
 use Rattle.std.specs.Prelude.{slice_get}
 use Rattle.std.specs.List.{All}
 use Rattle.std.proofs.lemmas.List.{take_more, take_all, map_more}
@@ -15,8 +15,8 @@ use Rattle.diagram_arena.specs.declared.nodes.Ref.{Ref}
 use Rattle.diagram_arena.specs.Table.{Table}
 use Rattle.exact_steps.specs.Steps.{narrowed_in}
 use Rattle.propagators.specs.Compiled.{CompiledState, IsCompiled}
-use Rattle.constraint_queue.specs.Queue.{QueueState, HasFlag, Reads, HasFlaggedReaders}
-use Rattle.learn_search.specs.Way.{IsQueueOf, AreStirred}
+use Rattle.constraint_queue.specs.Queue.{QueueState, Reads, HasFlaggedReaders}
+use Rattle.learn_search.specs.Way.{AreStirred}
 use Rattle.learn_search.proofs.Taking.{there, zip_lengths}
 
 -- ---- the queue is made

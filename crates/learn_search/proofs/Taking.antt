@@ -1,5 +1,5 @@
 -- What the step of a constraint does to domains on the way to the root family.
-use Rattle.std.proofs.Common.{◌≡◌, ◌≢◌, ℕ, zero, suc, ◌<◌, ◌≤◌, ◌==◌, Bool, true, false, List, [], ◌∷◌, length, get_or, Option, Some, None, refl, sym, ap, ◌∙◌, subst, inl, inr, arith, Contains}
+use Rattle.std.proofs.Common.{◌≡◌, ◌≢◌, ℕ, suc, ◌<◌, ◌≤◌, Bool, true, false, List, [], ◌∷◌, length, get_or, Some, refl, sym, ap, ◌∙◌, subst, inl, inr, arith, Contains}
 use Rattle.std.specs.Prelude.{Vec, slice_get, slice_set}
 use Rattle.std.specs.declared.alloc.Global.{Global}
 use Rattle.std.specs.List.{All, AllZip}
@@ -14,24 +14,23 @@ use Rattle.set_meaning.specs.declared.problems.Constraint.{Constraint}
 use Rattle.set_meaning.specs.declared.problems.Problem.{Problem}
 use Rattle.set_meaning.specs.Relations.{Holds, IsScope}
 use Rattle.bit_layout.specs.Order.{LayoutState, IsLayout}
-use Rattle.bit_layout.proofs.Rising.{nothing_in_empty, in_head, in_tail}
+use Rattle.bit_layout.proofs.Rising.{in_head, in_tail}
 use Rattle.diagram_arena.specs.declared.nodes.Ref.{Ref}
 use Rattle.diagram_arena.specs.declared.nodes.Ref.TheVariants.{Zero}
 use Rattle.diagram_arena.specs.Table.{Table, IsLive}
 use Rattle.diagram_arena.specs.Arena.{Grows}
-use Rattle.scope_words.specs.Words.{IsDiagramOf}
-use Rattle.search_rules.specs.Family.{Lies, AllLie, put}
+use Rattle.search_rules.specs.Family.{AllLie, put}
 use Rattle.search_rules.specs.Problem as rules
 use Rattle.search_rules.specs.Problem.Steps.{next}
 use Rattle.search_rules.specs.Trail.{IsPart}
-use Rattle.search_rules.specs.Measure.{size_in, sum_to, total}
+use Rattle.search_rules.specs.Measure.{size_in, total}
 use Rattle.search_rules.proofs.FamilyLemmas.{put-same}
 use Rattle.search_rules.proofs.StepLemmas.{extends_in, narrowed_is_part, extends_narrowed, extends_before, violated_root, steps_smaller}
 use Rattle.search_rules.proofs.MeasureLemmas.{size_strict, sum_strict, total_mono}
 use Rattle.exact_steps.specs.declared.steps.StepResult.{StepResult}
 use Rattle.exact_steps.specs.declared.steps.StepResult.TheVariants as step
 use Rattle.exact_steps.specs.Domains.{variable, values_in, IsDomain, AreDomains, family}
-use Rattle.exact_steps.specs.Steps.{IsStepOf, IsSatisfiable, AllExtend, AreNarrowed, IsViolated, narrowed_in}
+use Rattle.exact_steps.specs.Steps.{IsStepOf, IsSatisfiable, AreNarrowed, narrowed_in}
 use Rattle.exact_steps.specs.Rules.{IsConstraintOf}
 use Rattle.exact_steps.specs.Parts.{NewAreWanted}
 use Rattle.node_reclaim.specs.Growth.{NewAre}
@@ -40,7 +39,7 @@ use Rattle.exact_steps.proofs.Constraints.{family_grows, rule_extends, rule_viol
 use Rattle.exact_steps.proofs.Replacing.{domains_replaced, family_replaced}
 use Rattle.problem_rules.specs.Posed.{problem_of}
 use Rattle.problem_rules.proofs.Variables.{constraint_here}
-use Rattle.propagators.specs.Compiled.{CompiledState, IsCompiled, IsCompiledOfSome, IsConstraintAt}
+use Rattle.propagators.specs.Compiled.{CompiledState, IsCompiled, IsConstraintAt}
 use Rattle.propagators.proofs.Scopes.{IsEntry, entry}
 use Rattle.propagators.proofs.Moving.{listed_at}
 use Rattle.learn_search.specs.declared.narrowing.Taken.TheVariants as taken

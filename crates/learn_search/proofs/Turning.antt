@@ -1,5 +1,5 @@
 -- The queue on the way to the root family: which constraints without a flag stay quiet, and that the work falls.
-use Rattle.std.proofs.Common.{◌≡◌, ◌≢◌, ℕ, ◌+◌, ◌*◌, ◌<◌, ◌≤◌, Bool, true, false, List, [], length, get_or, set, Some, refl, sym, ap, ◌∙◌, subst, inl, inr, arith, Contains}
+use Rattle.std.proofs.Common.{◌≡◌, ℕ, ◌+◌, ◌*◌, ◌<◌, ◌≤◌, Bool, true, false, List, [], length, get_or, sym, ap, ◌∙◌, subst, inl, inr, arith, Contains}
 use Rattle.std.specs.Prelude.{Vec}
 use Rattle.std.specs.declared.alloc.Global.{Global}
 use Rattle.std.specs.List.{All}
@@ -12,23 +12,21 @@ use Rattle.set_meaning.specs.declared.kinds.Value.{Value}
 use Rattle.set_meaning.specs.declared.problems.VarId.{VarId}
 use Rattle.set_meaning.specs.declared.problems.ConId.{ConId}
 use Rattle.set_meaning.specs.declared.problems.Problem.{Problem}
-use Rattle.set_meaning.specs.Relations.{Holds, IsScope}
 use Rattle.bit_layout.specs.Order.{LayoutState}
 use Rattle.diagram_arena.specs.declared.nodes.Ref.{Ref}
 use Rattle.diagram_arena.specs.Table.{Table, IsLive}
 use Rattle.search_rules.specs.Measure.{total}
 use Rattle.exact_steps.specs.Domains.{variable, family}
 use Rattle.exact_steps.specs.Steps.{narrowed_in}
-use Rattle.exact_steps.specs.Rules.{IsConstraintOf}
 use Rattle.problem_rules.specs.Posed.{problem_of}
 use Rattle.problem_rules.proofs.Variables.{constraint_here}
 use Rattle.propagators.specs.Compiled.{CompiledState, IsCompiled}
 use Rattle.constraint_queue.specs.Queue.{QueueState, HasFlag, Reads, flag_count, HasNoFlags, IsTakenFrom}
 use Rattle.learn_search.specs.declared.narrowing.Taken.{Taken}
 use Rattle.learn_search.specs.declared.narrowing.Taken.TheVariants as taken
-use Rattle.learn_search.specs.Way.{IsOnWay, left, IsQuietAt, AreQuiet, IsTaken, IsNarrowing, IsQueueOf, AreSettledBut, AreSettled, AreStirred, work, IsTurned, IsRootFamily}
+use Rattle.learn_search.specs.Way.{IsOnWay, left, IsQuietAt, IsTaken, IsNarrowing, IsQueueOf, AreSettledBut, AreSettled, AreStirred, work, IsTurned, IsRootFamily}
 use Rattle.learn_search.proofs.Settling.{left_alike, member_cases}
-use Rattle.learn_search.proofs.Taking.{there, scopes_long, zip_lengths}
+use Rattle.learn_search.proofs.Taking.{there, scopes_long}
 
 -- ---- a constraint loses its flag
 

@@ -3,3 +3,7 @@ pub mod Nodes
 pub mod Searches
 pub mod Pinned
 pub mod Way
+pub mod Founds
+pub mod Stages
+pub mod Keeping
+pub mod Standings

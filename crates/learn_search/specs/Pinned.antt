@@ -3,13 +3,12 @@ use Rattle.std.specs.Prelude.{◌≡◌, List, ◌++◌, Some, slice_get}
 use Rattle.set_meaning.specs.declared.problems.VarId.{VarId}
 use Rattle.set_meaning.specs.declared.problems.Problem.{Problem}
 use Rattle.bit_layout.specs.Order.{LayoutState, IsLayout}
-use Rattle.diagram_arena.specs.declared.nodes.NodeId.{NodeId}
 use Rattle.diagram_arena.specs.declared.nodes.Ref.{Ref}
 use Rattle.diagram_arena.specs.declared.nodes.Stop.{Stop}
 use Rattle.diagram_arena.specs.declared.nodes.Stop.TheVariants.{Full, Memory}
 use Rattle.diagram_arena.specs.Table.{Table}
 use Rattle.diagram_arena.specs.Arena.{table}
-use Rattle.node_reclaim.specs.Pool.{PoolState, pins_of}
+use Rattle.node_reclaim.specs.Pool.{PoolState}
 use Rattle.node_reclaim.specs.Holders.{Gains, KeepsPins}
 use Rattle.exact_steps.specs.Domains.{IsDomain}
 use Rattle.propagators.specs.Units.{AreDone}
@@ -37,6 +36,7 @@ pub record LeavesPinned (p : Problem) (old new : PoolState) : Type 0 where
 -- before
 abbrev pub PinsAfterEnd : Problem → PoolState → PoolState → SearchEnd → Type 0
 PinsAfterEnd p old new end.Nodes = LeavesPinned p old new
+PinsAfterEnd p old new end.Conflicts = KeepsPins old new
 PinsAfterEnd p old new end.Memory = KeepsPins old new
 PinsAfterEnd p old new end.Ended = KeepsPins old new
 

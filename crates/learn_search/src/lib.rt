@@ -2,10 +2,13 @@
 //! every constraint leaves as it is (domain consistency; Hawkins, Lagoon and Stuckey, JAIR 2005).
 #![tactic(auto)]
 
+mod advancing;
 mod agenda;
+mod answering;
+mod beginning;
 mod narrowing;
 mod root;
 mod rows;
 mod search;
 
-pub use search::{LastState, NotBegun, RootFound, Search, SearchEnd, StopFault};
+pub use search::{Found, LastState, NotBegun, RootFound, Search, SearchEnd, StopFault};

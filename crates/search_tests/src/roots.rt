@@ -15,12 +15,12 @@ use std::alloc::{AllocError, Global};
 use std::test::Fail;
 
 /// An integer with these values.
-fn ints(alloc: Global, numbers: &[i64]) -> Result<Kind, AllocError> {
+pub(crate) fn ints(alloc: Global, numbers: &[i64]) -> Result<Kind, AllocError> {
     Ok(Kind::Int(SetValue::from_list(alloc, numbers)?))
 }
 
 /// A set over these elements.
-fn sets(alloc: Global, universe: &[i64]) -> Result<Kind, AllocError> {
+pub(crate) fn sets(alloc: Global, universe: &[i64]) -> Result<Kind, AllocError> {
     Ok(Kind::Set(SetValue::from_list(alloc, universe)?))
 }
 
@@ -74,7 +74,7 @@ fn constraint(relation: Relation, args: Vec<Arg>) -> Constraint {
 }
 
 /// The relation of the two variables of each pair, in this order.
-fn of_pairs(
+pub(crate) fn of_pairs(
     alloc: Global,
     relation: Relation,
     pairs: &[(u32, u32)],
@@ -95,7 +95,7 @@ fn unnamed(alloc: Global, count: usize) -> Result<Vec<Text>, AllocError> {
     Ok(names)
 }
 
-fn problem(
+pub(crate) fn problem(
     alloc: Global,
     kinds: Vec<Kind>,
     constraints: Vec<Constraint>,
@@ -131,7 +131,7 @@ fn search_in(
     }
 }
 
-fn set_text(alloc: Global, set: &SetValue) -> Result<String, AllocError> {
+pub(crate) fn set_text(alloc: Global, set: &SetValue) -> Result<String, AllocError> {
     let mut text = String::new(alloc);
     text.push_str("{")?;
     for element in set.elements() {
@@ -170,6 +170,7 @@ fn answer<D: Desk>(alloc: Global, search: &mut Search, desk: &mut D) -> Result<S
     match search.root(desk) {
         Ok(RootFound::Family(rows)) => rows_text(alloc, rows.as_slice()),
         Ok(RootFound::Unsatisfiable) => "unsatisfiable".to_string(alloc),
+        Err(SearchEnd::Conflicts) => "conflicts".to_string(alloc),
         Err(SearchEnd::Nodes) => "nodes".to_string(alloc),
         Err(SearchEnd::Memory) => "memory".to_string(alloc),
         Err(SearchEnd::Ended) => "ended".to_string(alloc),
@@ -208,7 +209,7 @@ fn root_of(
 }
 
 /// A set over 1 to 3 and its size, which is 0 or 3.
-fn sizes(alloc: Global) -> Result<(Vec<Kind>, Vec<Constraint>), AllocError> {
+pub(crate) fn sizes(alloc: Global) -> Result<(Vec<Kind>, Vec<Constraint>), AllocError> {
     let set = sets(alloc, [1, 2, 3].as_slice())?;
     let size = ints(alloc, [0, 3].as_slice())?;
     let kinds = vec![in alloc; set, size]?;

@@ -1,4 +1,4 @@
-use Rattle.std.proofs.Common.{◌≡◌, ◌<◌, length, refl, sym, ap, ◌∙◌, subst, List}
+use Rattle.std.proofs.Common.{◌<◌, length, refl, sym, ap, ◌∙◌, subst, List}
 use Rattle.std.specs.List.{All}
 use Rattle.set_meaning.specs.declared.problems.VarId.{VarId}
 use Rattle.diagram_arena.specs.declared.nodes.Ref.{Ref}

@@ -1,4 +1,4 @@
-use Rattle.std.proofs.Common.{◌++◌, subst}
+use Rattle.std.proofs.Common.{subst}
 use Rattle.diagram_arena.specs.Arena.{table}
 use Rattle.exact_steps.specs.Domains.{family}
 use Rattle.propagators.specs.Compiled.{pinned_by}

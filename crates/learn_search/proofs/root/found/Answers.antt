@@ -1,8 +1,8 @@
-use Rattle.std.proofs.Common.{◌≡◌, [], ◌++◌, sym, ap, ◌∙◌, subst}
+use Rattle.std.proofs.Common.{[], ◌++◌, sym, ap, ◌∙◌, subst}
 use Rattle.diagram_arena.specs.Arena.{table}
 use Rattle.node_reclaim.specs.Pool.{PoolState}
 use Rattle.pin_lists.specs.Units.{Moves}
-use Rattle.pin_lists.proofs.Leaving.{pins_leave, units_then, held_beside}
+use Rattle.pin_lists.proofs.Leaving.{pins_leave, held_beside}
 use Rattle.propagators.specs.Compiled.{pinned_by, IsCompiled}
 use Rattle.learn_search.specs.Nodes.{IsOfRoot}
 use Rattle.learn_search.specs.Way.{IsOnWay}

@@ -1,4 +1,4 @@
-use Rattle.std.proofs.Common.{◌≡◌, [], Err, ap, ◌∙◌, subst}
+use Rattle.std.proofs.Common.{◌≡◌, Err, ap, ◌∙◌}
 use Rattle.diagram_arena.specs.declared.nodes.Stop.{Stop}
 use Rattle.diagram_arena.specs.declared.nodes.Stop.TheVariants.{Full}
 use Rattle.learn_search.proofs.Spending.{root_itself, compile_leaves, compile_stopped, held_all, spent_pins, spent_leaves, after_stop, leaves_after}

@@ -1,0 +1,11 @@
+mod Pins
+mod Units
+mod Results
+mod Further
+mod Outside
+mod Asserting
+mod Decisions
+mod Turns
+mod Rounds
+mod Resuming
+mod Answered
