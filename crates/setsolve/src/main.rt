@@ -1,5 +1,5 @@
-//! `setsolve [--root] MODEL`: reads a FlatZinc model over sets, and prints a solution of it or that it has none, or, with `--root`, the bounds
-//! of each variable in the root family.
+//! `setsolve [--root] MODEL`: reads a FlatZinc model over sets, and prints a solution of it or that it has none, or,
+//! with `--root`, the bounds of each variable in the root family.
 #![tactic(auto)]
 
 use desk::RealDesk;

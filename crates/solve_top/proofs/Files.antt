@@ -1,5 +1,5 @@
 -- Lemmas of the run: from the calls on the desk to what the run means.
-use Rattle.std.proofs.Common.{◌≡◌, ◌<◌, ◌≤◌, ℕ, List, [], ◌++◌, ◌⊎◌, inl, inr, length, take, Option, Some, None, IfSome, IsSome, IsSomeAnd, refl, sym, ap, subst, ◌∙◌}
+use Rattle.std.proofs.Common.{◌≡◌, ◌≤◌, ℕ, List, [], ◌++◌, ◌⊎◌, inl, inr, length, take, Option, Some, None, IfSome, IsSome, IsSomeAnd, refl, sym, ap, subst, ◌∙◌}
 use Rattle.std.specs.Option.{option_map, option_and_then}
 use Rattle.std.proofs.lemmas.List.{append-nil}
 use Rattle.desk.specs.declared.outside.Asked.TheVariants as asked
@@ -9,13 +9,15 @@ use Rattle.desk.specs.State.{State, written, taken, file}
 use Rattle.desk.specs.Calls.{Asks, BeginsRead}
 use Rattle.desk.specs.Texts.{TakesAll, Takes, TakesUpTo, WritesFront}
 use Rattle.desk.specs.Causes.{Faults, Rose}
-use Rattle.solve_top.specs.declared.solving.Status.{Status}
-use Rattle.solve_top.specs.declared.solving.Status.TheVariants as status
+use Rattle.solve_top.specs.declared.status.Status.{Status}
+use Rattle.solve_top.specs.declared.status.Status.TheVariants as status
 use Rattle.solve_top.specs.declared.words.Task.{Task}
 use Rattle.solve_top.specs.declared.words.Task.TheVariants.{Solve, Root}
-use Rattle.solve_top.specs.Texts.{IsAccepted, IsDoneBy, IsRefusedBy, too_long_line}
-use Rattle.solve_top.specs.Endings.{EndsText, usage_line, read_fault_line, memory_lines}
-use Rattle.solve_top.specs.Run.{Ends, EndsWords, LeavesModel, Causes, Reads, RefusesWords, Begins, PrintsFront, PrintsAll, Prints, IsCutShort, RunMeans}
+use Rattle.solve_top.specs.Lines.{usage_line, too_long_line, read_fault_line, memory_lines}
+use Rattle.solve_top.specs.Texts.{IsAccepted, IsDoneBy, IsRefusedBy}
+use Rattle.solve_top.specs.Endings.{EndsText}
+use Rattle.solve_top.specs.Run.{Ends, LeavesModel, Causes, IsCutShort, RunMeans}
+use Rattle.solve_top.specs.Steps.{EndsWords, Reads, RefusesWords, Begins, PrintsFront, PrintsAll, Prints}
 
 -- ---- the text and the file
 
@@ -35,7 +37,7 @@ of_file P name text (Some find) there same p = some_and P text (find name) there
 ends_of : (task : Task) (name text : List ℕ) (old : State) (before now : ℕ) (s : Status) (out : List ℕ) → now ≡ before
     → IfSome old.files (λ find. IsSome (find name)) → IfSome (file name old) (λ xs. text ≡ xs) → EndsText task text s out → Ends task name old before now s out
 ends_of task name text old before now status.Done out quiet there same e = (quiet, of_file (λ xs. IsDoneBy task xs out) name text old.files there same e)
-ends_of task name text old before now status.Nodes out quiet there same e = (quiet, e.0, e.1, of_file IsAccepted name text old.files there same e.2)
+ends_of task name text old before now status.Nodes out quiet there same e = (quiet, e.0, of_file IsAccepted name text old.files there same e.1)
 ends_of task name text old before now status.File out quiet there same e = (quiet, of_file (λ xs. IsRefusedBy task xs out) name text old.files there same e)
 ends_of task name text old before now status.Words out quiet there same e = absurd e
 ends_of task name text old before now status.ReadFault out quiet there same e = absurd e

@@ -1,6 +1,5 @@
-pub mod Choices
 pub mod Files
 pub mod OneAnswer
-pub mod Capped
 pub mod Lines
+pub mod Searches
 mod Asked

@@ -1,23 +1,9 @@
--- Lemmas of the root command: the lines one by one, and the state of a search whose nodes ran out.
-use Rattle.std.proofs.Common.{◌≡◌, ◌∙◌, ℕ, List, [], ◌∷◌, ◌++◌, length, Option, Some, None, refl, sym, ap, ap₂, subst, arith, append_assoc}
+-- Lemmas of the lines of the root family, one by one.
+use Rattle.std.proofs.Common.{◌≡◌, ◌∙◌, ℕ, List, [], ◌∷◌, ◌++◌, length, refl, sym, ap, ap₂, arith, append_assoc}
 use Rattle.std.proofs.lemmas.List.{append-nil}
-use Rattle.std.specs.FinMap as map
 use Rattle.set_meaning.specs.declared.problems.Bounds.{Bounds}
-use Rattle.set_meaning.specs.declared.problems.Problem.{Problem}
 use Rattle.fzn_printer.specs.RootLine.{root_line}
-use Rattle.node_reclaim.specs.Pool.{PoolState, pinned_refs}
-use Rattle.node_reclaim.specs.Growth.{IsFull}
-use Rattle.learn_search.specs.Searches.{SearchState, IsLastOf}
-use Rattle.learn_search.specs.declared.search.LastState.{LastState}
-use Rattle.learn_search.specs.declared.search.SearchEnd.TheVariants as ends
-use Rattle.solve_top.specs.declared.solving.Status.{Status}
-use Rattle.solve_top.specs.declared.solving.Status.TheVariants as status
-use Rattle.solve_top.specs.declared.words.Task.TheVariants as tasks
 use Rattle.solve_top.specs.Roots.{named_line, root_lines}
-use Rattle.solve_top.specs.Texts.{IsAcceptedFile}
-use Rattle.solve_top.specs.Endings.{EndsRoot, EndsText, StopsWith, nodes_lines, memory_lines}
-
--- ---- lines
 
 -- a variable without a name has no line
 pub no_line : (name : List ℕ) (row : Bounds × ℕ) (out : List ℕ) → length name ≡ 0 → out ≡ out ++ named_line name row
@@ -46,43 +32,3 @@ pub no_more_rows : (a : List (List ℕ)) (b : List (Bounds × ℕ)) (out whole :
 no_more_rows [] b out whole none e = sym (append-nil out) ∙ e
 no_more_rows (n ∷ ns) [] out whole none e = sym (append-nil out) ∙ e
 no_more_rows (n ∷ ns) (r ∷ rs) out whole none e = absurd (omega (arith, none))
-
--- ---- a search whose nodes ran out
-
-pub last_state : (s : SearchState) (last : Option LastState) → s.pool.arena.limit ≡ 4000000 → s.ended ≡ Some ends.Nodes → IsLastOf s last → IsFull s.pool
-    → StopsWith status.Nodes last
-last_state s None limit ended last full = absurd (last ended)
-last_state s (Some l) limit ended last full = record {
-  limit = ap (λ (p : PoolState). p.arena.limit) last.1 ∙ limit;
-  full = ap (λ (p : PoolState). map.len p.arena.nodes) last.1 ∙ full ∙ limit;
-  named = last.2 ∙ ap pinned_refs (sym last.1);
-}
-
--- the same, in the words of the command's end
-pub nodes_end : (p : Problem) (s : Status) (out : List ℕ) → s ≡ status.Nodes → out ≡ nodes_lines → EndsRoot p s out
-nodes_end p s out e lines = let P : Status → Type 0 = λ z. EndsRoot p z out in subst P (sym e) lines
-
-pub memory_end : (p : Problem) (s : Status) (out : List ℕ) → s ≡ status.Memory → out ≡ memory_lines → EndsRoot p s out
-memory_end p s out e lines = let P : Status → Type 0 = λ z. EndsRoot p z out in subst P (sym e) lines
-
-pub nodes_stop : (s : Status) (stop last : Option LastState) → s ≡ status.Nodes → stop ≡ last → StopsWith status.Nodes last → StopsWith s stop
-nodes_stop s stop last e same h =
-    let P : Status → Type 0 = λ z. StopsWith z stop in
-    let Q : Option LastState → Type 0 = λ z. StopsWith status.Nodes z in
-    subst P (sym e) (subst Q (sym same) h)
-
-pub memory_stop : (s : Status) (stop : Option LastState) → s ≡ status.Memory → stop ≡ None → StopsWith s stop
-memory_stop s stop e none =
-    let P : Status → Type 0 = λ z. StopsWith z stop in
-    let Q : Option LastState → Type 0 = λ z. StopsWith status.Memory z in
-    subst P (sym e) (subst Q (sym none) tt)
-
--- what ends the command on a problem of a text ends it on the text
-pub text_ends : (text : List ℕ) (p : Problem) (s : Status) (out : List ℕ) → IsAcceptedFile text p → EndsRoot p s out → EndsText tasks.Root text s out
-text_ends text p status.Done out read h = record { problem = p; read = read; root = h }
-text_ends text p status.Nodes out read h = (refl, h, (p, read))
-text_ends text p status.Memory out read h = h
-text_ends text p status.Words out read h = absurd h
-text_ends text p status.File out read h = absurd h
-text_ends text p status.ReadFault out read h = absurd h
-text_ends text p status.WriteFault out read h = absurd h

@@ -1,14 +1,11 @@
 -- What answers the text of a model (the output of a FlatZinc solver, in the MiniZinc Handbook's words).
-use Rattle.std.specs.Prelude.{◌≡◌, ◌⊎◌, ℕ, List, [], length, codes}
+use Rattle.std.specs.Prelude.{◌≡◌, ◌⊎◌, ℕ, List, [], length}
 use Rattle.std.specs.List.{flat_map}
 use Rattle.set_meaning.specs.declared.kinds.Value.{Value}
 use Rattle.set_meaning.specs.declared.problems.Problem.{Problem}
 use Rattle.set_meaning.specs.Solutions.{AreAnswers, CoverAll}
 use Rattle.fzn_printer.specs.Block.{block}
-
--- the line that says that there is no solution
-abbrev pub no_solution : List ℕ
-no_solution = codes "=====UNSATISFIABLE=====\n"
+use Rattle.solve_top.specs.Lines.{no_solution}
 
 -- the one block that is asked for: the bytes are the blocks of the answers
 pub record IsAnswered (p : Problem) (answers : List (List Value)) (out : List ℕ) : Type 0 where

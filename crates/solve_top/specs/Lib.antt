@@ -1,8 +1,9 @@
-pub mod Enumeration
+pub mod Lines
+pub mod Statuses
 pub mod Answers
-pub mod Words
-pub mod Endings
-pub mod Run
-pub mod Small
-pub mod Texts
 pub mod Roots
+pub mod Words
+pub mod Texts
+pub mod Run
+pub mod Endings
+pub mod Steps

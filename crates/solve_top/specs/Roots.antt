@@ -6,7 +6,7 @@ use Rattle.search_rules.specs.Problem.{IsRootRefuted}
 use Rattle.problem_rules.specs.Posed.{problem_of}
 use Rattle.learn_search.specs.Roots.{AreRowsOf}
 use Rattle.fzn_printer.specs.RootLine.{root_line}
-use Rattle.solve_top.specs.Answers.{no_solution}
+use Rattle.solve_top.specs.Lines.{no_solution}
 
 -- the line of a variable, from its name, its bounds and the size of its diagram; without a name it has none
 abbrev pub named_line : List ℕ → Bounds × ℕ → List ℕ

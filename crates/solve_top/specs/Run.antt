@@ -8,12 +8,11 @@ use Rattle.desk.specs.declared.outside.To.TheVariants as to
 use Rattle.desk.specs.State.{State, written}
 use Rattle.desk.specs.Causes.{Faults, Rose}
 use Rattle.desk.specs.Texts.{WritesFront}
-use Rattle.solve_top.specs.declared.solving.Status.{Status}
-use Rattle.solve_top.specs.declared.solving.Status.TheVariants as status
+use Rattle.solve_top.specs.declared.status.Status.{Status}
+use Rattle.solve_top.specs.declared.status.Status.TheVariants as status
 use Rattle.solve_top.specs.declared.words.Task.{Task}
-use Rattle.solve_top.specs.declared.words.Task.TheVariants.{Root}
 use Rattle.solve_top.specs.Texts.{IsAccepted, IsDoneBy, IsRefusedBy}
-use Rattle.solve_top.specs.Endings.{usage_line, read_fault_line, nodes_lines, memory_lines}
+use Rattle.solve_top.specs.Lines.{usage_line, read_fault_line, nodes_lines, memory_lines}
 
 -- ---- the outside
 
@@ -21,7 +20,8 @@ use Rattle.solve_top.specs.Endings.{usage_line, read_fault_line, nodes_lines, me
 abbrev pub OfFile : List ℕ → State → (List ℕ → Type 0) → Type 0
 OfFile name s P = IfSome s.files (λ find. IsSomeAnd (find name) P)
 
--- Of several calls together: a front of these begin calls was asked, Out grew by these bytes, and the files are the same.
+-- Of several calls together: a front of these begin calls was asked, Out grew by these bytes, and the files are the
+-- same.
 pub record Leaves (begins : List (Asked × List ℕ)) (bytes : List ℕ) (old new : State) : Type 0 where
   pub asked : (k : ℕ) × (new.asked ≡ old.asked ++ take k begins)
   pub out : new.out ≡ option_map (λ xs. xs ++ bytes) old.out
@@ -33,7 +33,8 @@ pub record LeavesModel (name bytes : List ℕ) (old new : State) : Type 0 where
   pub log : new.log ≡ old.log
   pub log_read : new.log_read ≡ old.log_read
 
--- The counts of faults before a run and after it, by its status: no call of the desk failed but where the status says so.
+-- The counts of faults before a run and after it, by its status: no call of the desk failed but where the status says
+-- so.
 abbrev pub Causes : Status → Faults → Faults → Type 0
 Causes status.ReadFault f g = Rose f.reads g.reads × (g.writes ≡ f.writes)
 Causes status.WriteFault f g = Rose f.writes g.writes × ((g.reads ≡ f.reads) ⊎ Rose f.reads g.reads)
@@ -43,59 +44,17 @@ Causes status.Words f g = g ≡ f
 Causes status.File f g = g ≡ f
 Causes status.Memory f g = g ≡ f
 
--- ---- the two steps of a run
+-- ---- a whole run
 
--- what holds of the model's file where a run that is asked for this prints these bytes and ends with this status. The counts of failed
--- reads are those before the run and after it.
+-- what holds of the model's file where a run that is asked for this prints these bytes and ends with this status. The
+-- counts of failed reads are those before the run and after it.
 abbrev pub Ends : Task → List ℕ → State → ℕ → ℕ → Status → List ℕ → Type 0
 Ends task name old before now status.Done out = (now ≡ before) × OfFile name old (λ text. IsDoneBy task text out)
-Ends task name old before now status.Nodes out = (now ≡ before) × (task ≡ Root) × (out ≡ nodes_lines) × OfFile name old IsAccepted
+Ends task name old before now status.Nodes out = (now ≡ before) × (out ≡ nodes_lines) × OfFile name old IsAccepted
 Ends task name old before now status.File out = (now ≡ before) × OfFile name old (λ text. IsRefusedBy task text out)
 Ends task name old before now status.ReadFault out = Rose before now × (out ≡ read_fault_line)
 Ends task name old before now status.Memory out = (now ≡ before) × (out ≡ memory_lines)
 Ends task name old before now _ out = ⊥
-
--- The model's file was read, or not, and the run is to end so. Nothing was printed yet.
-pub record Reads (task : Task) (name : List ℕ) (old new : State) (f g : Faults) (s : Status) (out : List ℕ) : Type 0 where
-  pub leaves : LeavesModel name [] old new
-  pub ends : Ends task name old f.reads g.reads s out
-  pub causes : Causes s f g
-
--- what is printed where the words ask for nothing
-abbrev pub EndsWords : Status → List ℕ → Type 0
-EndsWords status.Words out = out ≡ usage_line
-EndsWords status.Memory out = out ≡ memory_lines
-EndsWords _ out = ⊥
-
--- This is to be printed, and nothing was touched.
-pub record RefusesWords (old new : State) (f g : Faults) (s : Status) (out : List ℕ) : Type 0 where
-  pub ends : EndsWords s out
-  pub state : new ≡ old
-  pub faults : g ≡ f
-
--- the first step, by what the words ask for, if it is anything
-abbrev pub Begins : Option (Task × List ℕ) → State → State → Faults → Faults → Status → List ℕ → Type 0
-Begins None = RefusesWords
-Begins (Some (task, name)) = Reads task name
-
--- Only a front of the bytes was printed, and then writing has failed.
-pub record PrintsFront (out : List ℕ) (old new : State) (f g : Faults) : Type 0 where
-  pub rose : Rose f.writes g.writes
-  pub front : WritesFront to.Out out old new
-  pub reads : g.reads ≡ f.reads
-
--- The bytes were printed, and the status is the one that they belong to.
-pub record PrintsAll (s : Status) (out : List ℕ) (old new : State) (f g : Faults) (result : Status) : Type 0 where
-  pub status : result ≡ s
-  pub state : new ≡ written to.Out out old
-  pub faults : g ≡ f
-
--- the second step
-abbrev pub Prints : Status → List ℕ → State → State → Faults → Faults → Status → Type 0
-Prints s out old new f g status.WriteFault = PrintsFront out old new f g
-Prints s out old new f g result = PrintsAll s out old new f g result
-
--- ---- a whole run
 
 -- Writing has failed: what was printed is a front of what another status would have printed.
 abbrev pub IsCutShort : Task → List ℕ → State → State → Faults → Faults → Type 0

@@ -1,6 +1,7 @@
 -- What a run says of the text of a model, by what is asked of it (this project's own).
-use Rattle.std.specs.Prelude.{◌≡◌, ◌⊎◌, ℕ, ◌<◌, ◌≤◌, List, length, codes}
+use Rattle.std.specs.Prelude.{◌≡◌, ◌⊎◌, ℕ, ◌<◌, ◌≤◌, List, length}
 use Rattle.set_meaning.specs.declared.problems.Problem.{Problem}
+use Rattle.set_meaning.specs.declared.problems.Goal.TheVariants.{Satisfy}
 use Rattle.fzn_model.specs.declared.faults.FileFault.{FileFault}
 use Rattle.fzn_model.specs.Files.{IsProblemOf, IsFaultOf}
 use Rattle.fzn_model.specs.Printed.{printed_line}
@@ -8,17 +9,11 @@ use Rattle.solve_top.specs.declared.words.Task.{Task}
 use Rattle.solve_top.specs.declared.words.Task.TheVariants.{Solve, Root}
 use Rattle.solve_top.specs.Answers.{IsOutText}
 use Rattle.solve_top.specs.Roots.{IsRootText}
-use Rattle.solve_top.specs.Small.{IsSmall}
+use Rattle.solve_top.specs.Lines.{too_long_line, not_built_line}
 
 -- the most bytes of a model's text
 abbrev pub text_limit : ℕ
 text_limit = 67108864
-
-abbrev pub too_long_line : List ℕ
-too_long_line = codes "% error: text too long\n"
-
-abbrev pub not_built_line : List ℕ
-not_built_line = codes "% error: not built yet\n"
 
 -- a file that is accepted: it is not too long, it has no fault, and this is its problem
 pub record IsAcceptedFile (text : List ℕ) (p : Problem) : Type 0 where
@@ -30,11 +25,10 @@ IsAccepted text = (p : Problem) × IsAcceptedFile text p
 
 -- ---- what is asked for is done
 
--- the text has a problem, which is small, and the bytes answer it
+-- the text has a problem, and the bytes answer it
 pub record IsAnsweredBy (text out : List ℕ) : Type 0 where
   pub problem : Problem
   pub read : IsAcceptedFile text problem
-  pub small : IsSmall problem
   pub answered : IsOutText problem out
 
 -- the text has a problem, and the bytes tell its root family
@@ -61,11 +55,11 @@ pub record IsFaulty (text out : List ℕ) : Type 0 where
   pub fault : IsFaultOf text first
   pub line : out ≡ printed_line text first
 
--- the text has a problem that is not small
+-- the text has a problem whose goal is not `satisfy`
 pub record IsNotBuilt (text out : List ℕ) : Type 0 where
   pub problem : Problem
   pub read : IsAcceptedFile text problem
-  pub large : IsSmall problem → ⊥
+  pub goal : problem.goal ≡ Satisfy → ⊥
   pub line : out ≡ not_built_line
 
 -- why a text is refused, and what is printed instead. Of each problem the root family is told

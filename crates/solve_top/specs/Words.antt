@@ -1,5 +1,5 @@
--- The words of the command line (this project's own). They are read as the parser of command lines reads a simple command, one with
--- plain flags and positional words (crate `clap`, specs/Walk and specs/Faults).
+-- The words of the command line (this project's own). They are read as the parser of command lines reads a simple
+-- command, one with plain flags and positional words (crate `clap`, specs/Walk and specs/Faults).
 use Rattle.std.specs.Prelude.{Bool, true, false, List, [], ◌∷◌, codes, Option, Some, None, if◌then◌else◌}
 use Rattle.std.specs.Option.{option_map, option_map_or}
 use Rattle.std.specs.Str.{bytes_eq}

@@ -1,13 +1,13 @@
 //! The top call of `setsolve`: from the words of its command line and a desk to what it prints and its status.
 #![tactic(auto)]
 
+mod answering;
 mod ending;
-mod enumeration;
 mod root;
-mod small;
-mod solving;
-#[cfg(test)]
-mod tests;
+mod running;
+mod searching;
+mod status;
 mod words;
 
-pub use solving::{Report, Status, run};
+pub use running::run;
+pub use status::{Report, Status};

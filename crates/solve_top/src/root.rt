@@ -1,22 +1,19 @@
 //! The root family of a problem, and the lines that tell it.
 
-ghost use Rattle.std.specs.Prelude.{◌≡◌, ◌++◌, Some, None, OnOk, IfOk};
+ghost use Rattle.std.specs.Prelude.{◌≡◌, ◌++◌, false, None, OnOk, IfOk};
 ghost use Rattle.problem_limits.specs.Limits.{KeepsLimits};
 ghost use Rattle.learn_search.specs.Roots.{IsRootOf};
 ghost use Rattle.solve_top.specs.Roots.{IsRootText, named_line, root_lines};
-ghost use Rattle.solve_top.specs.Endings.{ending_status, ending_text, ending_stop, nodes_lines, memory_lines, EndsRoot, StopsWith};
+ghost use Rattle.solve_top.specs.Statuses.{StopsWith};
+ghost use Rattle.solve_top.specs.Endings.{ending_status, ending_text, ending_stop, EndsRoot};
 
 use crate::ending::Ending;
-use crate::solving::Status;
+use crate::searching::{begin_search, give_up, stop_search};
 use desk::Desk;
 use fzn_printer::{UNSATISFIABLE, root_line};
-use learn_search::{LastState, RootFound, Search, SearchEnd, StopFault};
-use refute_log::LogWriter;
+use learn_search::{RootFound, Search, SearchEnd};
 use set_meaning::{Bounds, Problem, Text};
 use std::alloc::{AllocError, Global};
-
-/// The most nodes that a search makes.
-const NODE_LIMIT: u32 = 4_000_000;
 
 /// Finds the root family of the problem, and answers how the run is to end. The desk is not called.
 pub(crate) fn tell_root<D: Desk>(alloc: Global, p: Problem, desk: &mut D) -> Ending
@@ -26,9 +23,9 @@ pub(crate) fn tell_root<D: Desk>(alloc: Global, p: Problem, desk: &mut D) -> End
     ensures told { D.state desk.new ≡ D.state desk.old }
     ensures faults { D.faults desk.new ≡ D.faults desk.old }
 {
-    match Search::new(alloc, p, NODE_LIMIT, None, LogWriter::off()) {
-        Ok(search) => search_root(alloc, search, desk),
-        Err(_) => Ending::Memory,
+    match begin_search(alloc, p) {
+        Some(search) => search_root(alloc, search, desk),
+        None => Ending::Memory,
     }
 }
 
@@ -36,6 +33,7 @@ pub(crate) fn tell_root<D: Desk>(alloc: Global, p: Problem, desk: &mut D) -> End
 fn search_root<D: Desk>(alloc: Global, mut search: Search, desk: &mut D) -> Ending
     requires limit { search.pool.arena.limit ≡ 4000000 }
     requires begun { search.ended ≡ None }
+    requires unsearched { search.searched ≡ false }
     ensures ends { EndsRoot search.problem (ending_status result) (ending_text result) }
     ensures stop { StopsWith (ending_status result) (ending_stop result) }
     ensures told { D.state desk.new ≡ D.state desk.old }
@@ -49,46 +47,8 @@ fn search_root<D: Desk>(alloc: Global, mut search: Search, desk: &mut D) -> Endi
         }
         Err(SearchEnd::Nodes) => stop_search(search, desk),
         Err(SearchEnd::Memory) => give_up(search),
+        Err(SearchEnd::Conflicts) => unreachable!(),
         Err(SearchEnd::Ended) => unreachable!(),
-    }
-}
-
-/// Gives up a search for want of memory.
-fn give_up(search: Search) -> Ending
-    ensures status { ending_status result ≡ Status.Memory }
-    ensures text { ending_text result ≡ memory_lines }
-    ensures stop { ending_stop result ≡ None }
-{
-    search.release();
-    Ending::Memory
-}
-
-/// Gives up a search whose nodes ran out.
-fn stop_search<D: Desk>(search: Search, desk: &mut D) -> Ending
-    requires limit { search.pool.arena.limit ≡ 4000000 }
-    requires ended { search.ended ≡ Some SearchEnd.Nodes }
-    ensures ends { EndsRoot search.problem (ending_status result) (ending_text result) }
-    ensures stop { StopsWith (ending_status result) (ending_stop result) }
-    ensures told { D.state desk.new ≡ D.state desk.old }
-    ensures faults { D.faults desk.new ≡ D.faults desk.old }
-{
-    match search.stop(desk) {
-        Ok(last) => out_of_nodes(last),
-        Err(StopFault::Memory) => Ending::Memory,
-        Err(StopFault::Failed) => unreachable!(),
-    }
-}
-
-/// The ending of a search with this last state.
-fn out_of_nodes(last: Option<LastState>) -> Ending
-    requires { StopsWith Status.Nodes last }
-    ensures status { ending_status result ≡ Status.Nodes }
-    ensures text { ending_text result ≡ nodes_lines }
-    ensures stop { ending_stop result ≡ last }
-{
-    match last {
-        Some(last) => Ending::Nodes(last),
-        None => unreachable!(),
     }
 }
 
@@ -116,11 +76,7 @@ fn root_text(alloc: Global, p: &Problem, found: &RootFound) -> Result<Vec<u8>, A
 }
 
 /// The lines of variables with these names and rows.
-pub(crate) fn family_text(
-    alloc: Global,
-    names: &[Text],
-    rows: &[(Bounds, u64)],
-) -> Result<Vec<u8>, AllocError>
+fn family_text(alloc: Global, names: &[Text], rows: &[(Bounds, u64)]) -> Result<Vec<u8>, AllocError>
     ensures { IfOk result (λ out. out.items ≡ root_lines names.now rows.now) }
 {
     let mut out = Vec::new(alloc);

@@ -18,8 +18,8 @@ pub enum Task {
     Root,
 }
 
-/// What the words ask for, and the name of the model's file. None says that they cannot be read, that they request help, or that they name
-/// no model.
+/// What the words ask for, and the name of the model's file. None says that they cannot be read, that they request
+/// help, or that they name no model.
 pub(crate) fn read_words(
     alloc: Global,
     words: &[String],

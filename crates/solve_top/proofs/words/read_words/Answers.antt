@@ -1,4 +1,4 @@
-use Rattle.std.proofs.Common.{◌≡◌, List, Option, map, ap, subst}
+use Rattle.std.proofs.Common.{◌≡◌, List, map, ap, subst}
 use Rattle.std.specs.Prelude.{IfOk, string_bytes}
 use Rattle.std.specs.Option.{option_map}
 use Rattle.clap.specs.Words.{App, Text, app_of, fault_of, is_simple_and_free, kind_of, matches_of}
