@@ -1,5 +1,5 @@
 //! Root families of small problems. Bounds and numbers of nodes are worked out by hand, from the words of the values that are left.
-ghost use Rattle.std.specs.Prelude.{◌<◌, ◌≤◌, IfOk};
+ghost use Rattle.std.specs.Prelude.{◌≡◌, ◌<◌, ◌≤◌, false, IfOk};
 ghost use Rattle.problem_limits.specs.Limits.{KeepsLimits};
 
 use desk::{Desk, MemoryDesk};
@@ -120,6 +120,7 @@ fn search_in(
 ) -> Result<Search, AllocError>
     requires some { 0 < nodes }
     requires most { nodes ≤ 20000000 }
+    ensures unsearched { IfOk result (λ search. search.searched ≡ false) }
 {
     let p = problem(alloc, kinds, constraints)?;
     if !keeps_limits(alloc, &p)? {
@@ -166,7 +167,10 @@ fn rows_text(alloc: Global, rows: &[(Bounds, u64)]) -> Result<String, AllocError
 }
 
 /// What the search answers, over any desk, so that no test's proof carries what one desk tells.
-fn answer<D: Desk>(alloc: Global, search: &mut Search, desk: &mut D) -> Result<String, AllocError> {
+fn answer<D: Desk>(alloc: Global, search: &mut Search, desk: &mut D) -> Result<String, AllocError>
+    requires unsearched { search.old.searched ≡ false }
+    ensures unsearched { search.new.searched ≡ false }
+{
     match search.root(desk) {
         Ok(RootFound::Family(rows)) => rows_text(alloc, rows.as_slice()),
         Ok(RootFound::Unsatisfiable) => "unsatisfiable".to_string(alloc),
