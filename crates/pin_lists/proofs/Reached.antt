@@ -30,7 +30,7 @@ module _ (a b : PoolState) (is : Reclaims a b) where
   unfolding table
   at_node i v kept =
       let there : (o : Option Stored) → o ≡ Some kept.0 → option_map_or (λ (n : Triple). child n v) (option_map triple_of o) (Node i) ≡ child (triple_of kept.0) v
-              = λ o e. ap (λ (q : Option Stored). option_map_or (λ (n : Triple). child n v) (option_map triple_of q) (Node i)) e in
+      = λ o e. ap (λ (q : Option Stored). option_map_or (λ (n : Triple). child n v) (option_map triple_of q) (Node i)) e in
       ap (λ (q : Option Stored). option_map_or (λ (n : Triple). child n v) (option_map triple_of q) (Node i)) kept.2 ∙ sym (there (map.get a.arena.nodes i) kept.1)
 
   same_step : (r : Ref) (v : Bool) → Found r → step (table b.arena) r v ≡ step (table a.arena) r v
