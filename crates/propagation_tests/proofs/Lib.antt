@@ -1,0 +1,3 @@
+pub mod SetSamples
+pub mod Filling
+pub mod Queues

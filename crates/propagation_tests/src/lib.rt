@@ -1,0 +1,7 @@
+//! Tests of propagation.
+#![tactic(auto)]
+
+#[cfg(test)]
+mod propagating;
+#[cfg(test)]
+mod samples;
