@@ -1,5 +1,5 @@
 -- The values of a variable that are in its side.
-use Rattle.std.proofs.Common.{◌≡◌, ◌↔◌, ℕ, ◌+◌, ◌<◌, ◌≤◌, Bool, true, false, List, [], ◌∷◌, ◌++◌, length, take, get_or, Contains, Some, refl, sym, ap, ◌∙◌, subst, inl, inr, arith}
+use Rattle.std.proofs.Common.{◌≡◌, ◌↔◌, ℕ, ◌+◌, ◌<◌, ◌≤◌, Bool, true, false, List, [], ◌∷◌, ◌++◌, length, take, get_or, Contains, Some, refl, sym, ap, ◌∙◌, subst, inl, inr}
 use Rattle.std.specs.Prelude.{slice_get, IsSomeAnd}
 use Rattle.std.proofs.lemmas.List.{take_more, take_all}
 use Rattle.std.proofs.lemmas.List.Elements.{Contains-push, Contains-push_cases, Contains-append_left}
@@ -7,7 +7,7 @@ use Rattle.set_meaning.specs.declared.kinds.Kind.{Kind}
 use Rattle.set_meaning.specs.declared.kinds.Value.{Value}
 use Rattle.set_meaning.specs.Kinds.{InKind, initial_values}
 use Rattle.log_rules.specs.declared.nodes.Node.{Node}
-use Rattle.log_rules.specs.Boxes.{Sides, IsInitial, side_of}
+use Rattle.log_rules.specs.Boxes.{Sides, side_of}
 use Rattle.bit_layout.proofs.Rising.{nothing_in_empty}
 use Rattle.sweep_shapes.specs.Trials.{IsAllowed}
 

@@ -1,10 +1,10 @@
 -- The variables of a constraint that fits its row.
-use Rattle.std.proofs.Common.{◌≡◌, ◌<◌, nat_lt, true, false, List, [], ◌∷◌, ◌++◌, length, Option, Some, None, refl, sym, ap, ◌∙◌, subst, inl, inr, Contains, IsTrue, Bool}
+use Rattle.std.proofs.Common.{◌≡◌, ◌<◌, get_or, nat_lt, true, false, List, [], ◌∷◌, ◌++◌, length, Option, Some, None, refl, sym, ap, ◌∙◌, subst, inl, inr, Contains, IsTrue, Bool}
 use Rattle.std.specs.Prelude.{slice_get, option_map, option_to_list, IfSome, All}
 use Rattle.std.specs.List.{filter_map, flat_map, AllZip}
 use Rattle.std.proofs.lemmas.Bool.{ltb-true, ltb-false}
 use Rattle.std.proofs.lemmas.Option.{slice_get_past}
-use Rattle.std.proofs.lemmas.List.Elements.{All-head, All-tail}
+use Rattle.std.proofs.lemmas.List.Elements.{All-head, All-tail, Contains-get_or}
 use Rattle.set_meaning.specs.declared.kinds.Kind.{Kind}
 use Rattle.set_meaning.specs.declared.problems.VarId.{VarId}
 use Rattle.set_meaning.specs.declared.problems.Term.{Term}
@@ -17,7 +17,7 @@ use Rattle.set_meaning.specs.declared.rows.Sort.TheVariants.{Boolean}
 use Rattle.set_meaning.specs.declared.rows.Shape.{Shape}
 use Rattle.set_meaning.specs.declared.rows.Shape.TheVariants.{OneOf, ManyOf, ConstantOf, ConstantsOf}
 use Rattle.set_meaning.specs.Rows.{sort_of_kind, HasSort, IsConstantOf, HasShape, shapes_of, row_of, FitsRow}
-use Rattle.set_meaning.specs.Relations.{terms_of, variable_of, variables_of}
+use Rattle.set_meaning.specs.Relations.{IsScope, terms_of, variable_of, variables_of}
 use Rattle.bit_layout.proofs.Rising.{nothing_in_empty, in_cons}
 use Rattle.sweep_shapes.proofs.Alike.{Each}
 
@@ -89,3 +89,8 @@ each_in P (u ∷ vs) v h k = elim (in_cons u vs v k) [
 -- a constraint that fits its row speaks of variables of the problem
 pub variable_known : (kinds : List Kind) (c : Constraint) (v : VarId) → FitsRow kinds c → Contains (variables_of c) v → v.0 < length kinds
 variable_known kinds c v fits h = each_in (λ (v : VarId). v.0 < length kinds) (variables_of c) v (variables_known kinds c fits) h
+
+pub scope_known : (kinds : List Kind) (c : Constraint) (scope : List VarId) → FitsRow kinds c → IsScope c scope → All (λ (v : VarId). v.0 < length kinds) scope
+scope_known kinds c scope fits is i d within =
+    let v = get_or scope i d in
+    variable_known kinds c v fits ((is.members v).0 (Contains-get_or scope i d within))

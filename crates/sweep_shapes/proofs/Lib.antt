@@ -1,9 +1,12 @@
 mod Alike
+mod Cards
 mod Deciding
 mod Filtering
 mod First
 mod Known
 mod Lists
+mod Fixing
+mod Summing
 mod Trying
 mod Opening
 mod Satisfying
@@ -11,3 +14,6 @@ mod SetGlue
 mod SetKinds
 mod SetSides
 mod SetTask
+mod Standing
+mod ReadArrays
+mod ReadElements

@@ -1,10 +1,10 @@
 -- Values of the choices that satisfy a constraint, and assignments in the sides that do.
-use Rattle.std.proofs.Common.{◌≡◌, ◌↔◌, ℕ, zero, suc, ◌+◌, ◌<◌, ◌≤◌, ◌==◌, true, false, not, ◌||◌, ◌&&◌, List, [], ◌∷◌, ◌++◌, length, get_or, set, Contains, Option, Some, None, refl, sym, ap, ◌∙◌, subst, inl, inr, arith}
-use Rattle.std.specs.Prelude.{slice_get, IsSomeAnd, All, Any}
+use Rattle.std.proofs.Common.{◌≡◌, ◌↔◌, ℕ, suc, ◌<◌, ◌==◌, true, false, not, ◌||◌, ◌&&◌, List, [], ◌∷◌, length, get_or, set, Contains, Some, refl, sym, ap, ◌∙◌, subst, inl, inr, arith}
+use Rattle.std.specs.Prelude.{slice_get, IsSomeAnd, All}
 use Rattle.std.specs.List.{AllZip, list_all}
 use Rattle.std.proofs.lemmas.Bool.{ne_eqb}
 use Rattle.std.proofs.lemmas.List.Elements.{All-head, All-tail}
-use Rattle.std.proofs.lemmas.Option.{slice_get-get_or, slice_get_within, get_or_from_slice_get}
+use Rattle.std.proofs.lemmas.Option.{slice_get-get_or}
 use Rattle.set_meaning.specs.declared.kinds.Kind.{Kind}
 use Rattle.set_meaning.specs.declared.kinds.Value.{Value}
 use Rattle.set_meaning.specs.declared.kinds.Value.TheVariants as value
@@ -16,11 +16,11 @@ use Rattle.bit_layout.proofs.Rising.{nothing_in_empty, in_cons, in_head, in_tail
 use Rattle.bit_layout.proofs.Listing.{all_zip_long}
 use Rattle.log_rules.specs.declared.nodes.Node.{Node}
 use Rattle.log_rules.specs.Tables.{walk}
-use Rattle.log_rules.specs.Boxes.{Sides, IsInitial, word_at, side_of, IsWithin as IsInBox, InBox, SomeSatisfy}
+use Rattle.log_rules.specs.Boxes.{Sides, IsInitial, word_at, side_of, IsWithin as IsInBox, SomeSatisfy}
 use Rattle.log_rules.specs.Rules.{StandsIn}
 use Rattle.log_rules.proofs.Inside.{is_initial}
 use Rattle.sweep_shapes.specs.declared.choices.Choice.{Choice}
-use Rattle.sweep_shapes.specs.Trials.{IsAllowed, IsChosen, SomeChosen}
+use Rattle.sweep_shapes.specs.Trials.{IsAllowed, SomeChosen}
 use Rattle.sweep_shapes.proofs.Alike.{Each, holds_alike}
 use Rattle.sweep_shapes.proofs.Lists.{at_put, beside_put, length_put, same_or_other}
 use Rattle.sweep_shapes.proofs.Opening.{Beside, IsWithin, Opened, found_or_beside, chosen_is_within, within_is_chosen}
@@ -49,7 +49,18 @@ unnamed kinds table (s ∷ sides) v x others =
 
 -- ---- from values of the choices
 
-within_satisfies : (kinds : List Kind) (table : List Node) (sides : Sides) (c : Constraint) (first : List Value) (scope : List VarId) (values : List Value) → IsAssignment kinds first → IsScope c scope
+pub within_legal : (kinds : List Kind) (table : List Node) (sides : Sides) (first : List Value) (scope : List VarId) (values : List Value) → IsAssignment kinds first
+    → IsWithin (IsAllowed kinds table sides) first scope values → IsAssignment kinds values
+within_legal kinds table sides first scope values legal within =
+    zip_each InKind kinds values (within.long ∙ sym (all_zip_long InKind kinds first legal)) initial
+  where
+    initial : (k : ℕ) (x : Value) → slice_get values k ≡ Some x → IsSomeAnd (slice_get kinds k) (λ i. InKind i x)
+    initial k x is = elim (found_or_beside scope k) [
+      | inl f ↦ subst (λ j. IsInitial kinds j x) f.2 (some_value values f.0.0 x (IsAllowed kinds table sides f.0.0) (ap (slice_get values) f.2 ∙ is) (within.inside f.0 f.1)).0
+      | inr beside ↦ is_initial kinds first legal k x (sym (within.others k beside) ∙ is)
+    ]
+
+pub within_satisfies : (kinds : List Kind) (table : List Node) (sides : Sides) (c : Constraint) (first : List Value) (scope : List VarId) (values : List Value) → IsAssignment kinds first → IsScope c scope
     → All (λ side. StandsIn c side.0) sides → IsWithin (IsAllowed kinds table sides) first scope values → Holds c values → SomeSatisfy kinds table sides c
 unfolding IsInBox
 within_satisfies kinds table sides c first scope values legal is_scope named within holds = record {

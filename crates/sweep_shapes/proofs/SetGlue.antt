@@ -1,7 +1,6 @@
 -- Words over the places of set variables, and assignments in their sides.
-use Rattle.std.proofs.Common.{◌≡◌, ◌↔◌, ◌⊎◌, ℕ, zero, suc, ◌+◌, ◌<◌, ◌≤◌, ◌==◌, Bool, true, false, cond, ℤ, List, [], ◌∷◌, length, map, get_or, set, Contains, Option, Some, None, IsTrue, refl, sym, ap, ◌∙◌, subst, inl, inr, arith}
+use Rattle.std.proofs.Common.{◌≡◌, ◌↔◌, ℕ, suc, ◌<◌, ◌==◌, Bool, true, false, cond, ℤ, List, [], ◌∷◌, length, map, set, Contains, Option, Some, None, refl, sym, ap, ◌∙◌, subst, inl, inr, arith}
 use Rattle.std.specs.Prelude.{slice_get, IsSomeAnd, All}
-use Rattle.std.specs.List.{AllZip}
 use Rattle.std.specs.Option.{option_map_or}
 use Rattle.std.proofs.lemmas.Bool.{ne_eqb}
 use Rattle.std.proofs.lemmas.List.Elements.{All-head, All-tail}
@@ -11,22 +10,21 @@ use Rattle.set_meaning.specs.declared.kinds.Kind.TheVariants as kind
 use Rattle.set_meaning.specs.declared.kinds.Value.{Value}
 use Rattle.set_meaning.specs.declared.kinds.Value.TheVariants as value
 use Rattle.set_meaning.specs.declared.problems.VarId.{VarId}
-use Rattle.set_meaning.specs.declared.problems.Term.{Term}
 use Rattle.set_meaning.specs.declared.problems.Constraint.{Constraint}
 use Rattle.set_meaning.specs.Kinds.{InKind, IsAssignment}
 use Rattle.set_meaning.specs.Problems.{IsKind}
 use Rattle.set_meaning.specs.Sets.{Has, IsSubset, ascending_set}
-use Rattle.set_meaning.specs.Relations.{Holds, HoldsAs, HoldsOf, IsScope, variables_of}
+use Rattle.set_meaning.specs.Relations.{Holds, IsScope}
 use Rattle.set_meaning.proofs.Ascending.{IsSetOf-ascending_set}
 use Rattle.bit_layout.specs.declared.places.Place.{Place}
-use Rattle.bit_layout.specs.Words.{IsValueOf, word_of, width_of}
+use Rattle.bit_layout.specs.Words.{IsValueOf, word_of}
 use Rattle.bit_layout.proofs.Elements.{chosen}
 use Rattle.bit_layout.proofs.KindWords.{set_value}
 use Rattle.bit_layout.proofs.Rising.{nothing_in_empty, in_cons, in_head, in_tail}
 use Rattle.bit_layout.proofs.Listing.{all_zip_long}
 use Rattle.log_rules.specs.declared.nodes.Node.{Node}
 use Rattle.log_rules.specs.Tables.{walk}
-use Rattle.log_rules.specs.Boxes.{Sides, IsInitial, word_at, side_of, IsWithin as IsInBox, InBox, SomeSatisfy, AreSides}
+use Rattle.log_rules.specs.Boxes.{Sides, word_at, side_of, IsWithin as IsInBox, SomeSatisfy, AreSides}
 use Rattle.log_rules.specs.Rules.{StandsIn}
 use Rattle.log_rules.proofs.Inside.{is_initial, value_there}
 use Rattle.log_rules.proofs.Walks.{walk_of_an_end}
@@ -34,17 +32,16 @@ use Rattle.sweep_rules.specs.Rules.{Rules, accepts}
 use Rattle.sweep_rules.specs.SetPlaces.{AreSetPlaces, set_bit}
 use Rattle.sweep_table.specs.Sides.{own_bits, own_count}
 use Rattle.sweep_scopes.specs.declared.meeting.Slot.{Slot}
-use Rattle.sweep_scopes.specs.Meetings.{Meets, Walks, place_in, places_in}
-use Rattle.sweep_shapes.specs.Slots.{node_in, IsSlot}
+use Rattle.sweep_scopes.specs.Meetings.{Meets, Walks, places_in}
+use Rattle.sweep_shapes.specs.Slots.{node_in, IsSetVariable}
 use Rattle.sweep_shapes.proofs.Lists.{at_put, beside_put, length_put, same_or_other}
 use Rattle.sweep_shapes.proofs.Opening.{Beside, found_or_beside}
 use Rattle.sweep_shapes.proofs.Satisfying.{zip_each, unnamed}
-use Rattle.sweep_shapes.proofs.SetKinds.{IsSetVariable}
 use Rattle.sweep_shapes.proofs.SetSides.{AreCounted, HasSlot, IsOfVariable, side_walks}
 
 -- ---- lists of values
 
-first_exists : (kinds : List Kind) → All IsKind kinds → (values : List Value) × IsAssignment kinds values
+pub first_exists : (kinds : List Kind) → All IsKind kinds → (values : List Value) × IsAssignment kinds values
 unfolding InKind Has IsSubset
 first_exists [] legal = ([], tt)
 first_exists (kind.Bool ∷ kinds) legal = let r = first_exists kinds (All-tail IsKind kind.Bool kinds legal) in (value.Bool false ∷ r.0, (tt, r.1))
@@ -108,19 +105,14 @@ no_own_bits (p ∷ places) v (b ∷ bits) none =
     ap (λ t. own_bits (cond t (Some p.position) None ∷ places_in places v) (b ∷ bits)) (ne_eqb p.variable.0 v.0 (none p (in_head p places)))
     ∙ no_own_bits places v bits (λ q h. none q (in_tail p places q h))
 
--- ---- what holds
-
-plain_holds : (c : Constraint) (values : List Value) → c.reif ≡ None → HoldsOf c.relation c.args values ↔ Holds c values
-unfolding Holds
-plain_holds c values plain =
-    (λ h. subst (λ (o : Option Term). HoldsAs o values (HoldsOf c.relation c.args values)) (sym plain) h, λ h. subst (λ (o : Option Term). HoldsAs o values (HoldsOf c.relation c.args values)) plain h)
+-- ---- variables and values
 
 others_named : (c : Constraint) (scope : List VarId) (sides : Sides) (k : ℕ) → IsScope c scope → All (λ side. StandsIn c side.0) sides → Beside scope k → All (λ side. side.0 ≡ k → ⊥) sides
 others_named c scope sides k is named beside i d at e =
     let stands = named i d at in
     beside stands.1 ((is.members stands.1).1 (stands.0, stands.2, stands.3)) (stands.4 ∙ e)
 
-set_in_kind : (u : List ℤ) (x : Value) → InKind (kind.Set u) x → (s : List ℤ) × (x ≡ value.Set s)
+pub set_in_kind : (u : List ℤ) (x : Value) → InKind (kind.Set u) x → (s : List ℤ) × (x ≡ value.Set s)
 unfolding InKind
 set_in_kind u (value.Bool b) h = absurd h
 set_in_kind u (value.Int n) h = absurd h
@@ -143,7 +135,6 @@ pub record Task (kinds : List Kind) (table : List Node) (sides : Sides) (c : Con
   pub words : HaveWords
   pub one : AreOne
   pub legal : All IsKind kinds
-  pub plain : c.reif ≡ None
   pub scope : IsScope c variables
   pub are : AreSetPlaces kinds variables places
   pub ok : AreSides kinds table sides
@@ -182,12 +173,12 @@ slot_walks kinds table sides c variables places first second third task some slo
 
 satisfied_meets : {Q : Type 0} (rules : Rules Q) (kinds : List Kind) (table : List Node) (sides : Sides) (c : Constraint) (variables : List VarId) (places : List Place) (first second third : Slot)
     → Task kinds table sides c variables places first second third
-    → ((values : List Value) → IsAssignment kinds values → (accepts rules (map (set_bit values) places) ≡ true) ↔ HoldsOf c.relation c.args values)
+    → ((values : List Value) → IsAssignment kinds values → (accepts rules (map (set_bit values) places) ≡ true) ↔ Holds c values)
     → SomeSatisfy kinds table sides c → Meets table places rules first second third
 satisfied_meets rules kinds table sides c variables places first second third task exact some = record {
   word = map (set_bit some.values) places;
   long = length-set_bits some.values places;
-  accepted = (exact some.values some.assignment).1 ((plain_holds c some.values task.plain).1 some.holds);
+  accepted = (exact some.values some.assignment).1 some.holds;
   first_walks = slot_walks kinds table sides c variables places first second third task some first task.of_first;
   second_walks = slot_walks kinds table sides c variables places first second third task some second task.of_second;
   third_walks = slot_walks kinds table sides c variables places first second third task some third task.of_third;
@@ -228,15 +219,15 @@ given kinds table sides c variables places first second third task word long v h
 
 meets_satisfied : {Q : Type 0} (rules : Rules Q) (kinds : List Kind) (table : List Node) (sides : Sides) (c : Constraint) (variables : List VarId) (places : List Place) (first second third : Slot)
     → Task kinds table sides c variables places first second third
-    → ((values : List Value) → IsAssignment kinds values → (accepts rules (map (set_bit values) places) ≡ true) ↔ HoldsOf c.relation c.args values)
+    → ((values : List Value) → IsAssignment kinds values → (accepts rules (map (set_bit values) places) ≡ true) ↔ Holds c values)
     → Meets table places rules first second third → SomeSatisfy kinds table sides c
 unfolding IsInBox
 meets_satisfied rules kinds table sides c variables places first second third task exact m = record {
   values = overwritten (first_exists kinds task.legal).0 (value_in_word kinds places m.word) variables;
   assignment = legal_values;
   inside = inside;
-  holds = (plain_holds c (overwritten (first_exists kinds task.legal).0 (value_in_word kinds places m.word) variables) task.plain).0
-      ((exact (overwritten (first_exists kinds task.legal).0 (value_in_word kinds places m.word) variables) legal_values).0 (subst (λ w. accepts rules w ≡ true) (sym same_word) m.accepted));
+  holds = (exact (overwritten (first_exists kinds task.legal).0 (value_in_word kinds places m.word) variables) legal_values).0
+      (subst (λ w. accepts rules w ≡ true) (sym same_word) m.accepted);
 } where
   base_legal : IsAssignment kinds (first_exists kinds task.legal).0
   base_legal = (first_exists kinds task.legal).1
@@ -308,7 +299,7 @@ meets_satisfied rules kinds table sides c variables places first second third ta
 
 pub meets_is_satisfied : {Q : Type 0} (rules : Rules Q) (kinds : List Kind) (table : List Node) (sides : Sides) (c : Constraint) (variables : List VarId) (places : List Place) (first second third : Slot)
     → Task kinds table sides c variables places first second third
-    → ((values : List Value) → IsAssignment kinds values → (accepts rules (map (set_bit values) places) ≡ true) ↔ HoldsOf c.relation c.args values)
+    → ((values : List Value) → IsAssignment kinds values → (accepts rules (map (set_bit values) places) ≡ true) ↔ Holds c values)
     → Meets table places rules first second third ↔ SomeSatisfy kinds table sides c
 meets_is_satisfied rules kinds table sides c variables places first second third task exact =
     (meets_satisfied rules kinds table sides c variables places first second third task exact, satisfied_meets rules kinds table sides c variables places first second third task exact)

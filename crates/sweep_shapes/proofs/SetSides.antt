@@ -1,23 +1,22 @@
 -- The sides of set variables, each as the node of one slot.
-use Rattle.std.proofs.Common.{◌≡◌, ◌⊎◌, ℕ, zero, suc, ◌+◌, ◌-◌, ◌<◌, ◌≤◌, ◌==◌, Bool, true, false, not, ◌||◌, ◌&&◌, cond, List, [], ◌∷◌, length, get_or, Contains, Option, Some, None, refl, sym, ap, ◌∙◌, subst, inl, inr, arith}
+use Rattle.std.proofs.Common.{◌≡◌, ◌⊎◌, ℕ, zero, suc, ◌<◌, ◌≤◌, ◌==◌, Bool, true, false, not, ◌||◌, ◌&&◌, cond, List, [], ◌∷◌, length, get_or, Contains, Some, None, refl, sym, ap, ◌∙◌, subst, inl, inr, arith}
 use Rattle.std.specs.Prelude.{slice_get, IsSomeAnd, All}
 use Rattle.std.specs.List.{list_all}
 use Rattle.std.specs.Ordering.{nat_cmp}
 use Rattle.std.specs.List.Sorted.{IsStrictlySortedBy}
 use Rattle.std.specs.declared.cmp.Ordering.TheVariants.{Less}
-use Rattle.std.proofs.lemmas.Bool.{ne_eqb, eqb-true, eqb-false, cases_lt}
+use Rattle.std.proofs.lemmas.Bool.{eqb-true, cases_lt}
 use Rattle.std.proofs.lemmas.List.Elements.{All-head, All-tail, All-from_recursion}
 use Rattle.std.proofs.lemmas.Map.Keys.{sorted_head, sorted_tail}
 use Rattle.std.proofs.lemmas.Option.{slice_get-get_or}
 use Rattle.set_meaning.specs.declared.kinds.Kind.{Kind}
-use Rattle.set_meaning.specs.declared.kinds.Kind.TheVariants as kind
 use Rattle.set_meaning.specs.declared.kinds.Value.{Value}
 use Rattle.set_meaning.specs.declared.problems.VarId.{VarId}
 use Rattle.set_meaning.specs.Problems.{IsKind}
 use Rattle.bit_layout.specs.declared.places.Place.{Place}
 use Rattle.bit_layout.specs.Words.{width_of}
 use Rattle.log_rules.specs.declared.nodes.Node.{Node}
-use Rattle.log_rules.specs.Tables.{node_at, next_node, walk, Tests, here, by_lo, by_hi}
+use Rattle.log_rules.specs.Tables.{next_node, walk, Tests, here, by_lo, by_hi}
 use Rattle.log_rules.specs.Boxes.{Sides, word_at, side_of, FitsWidth, IsSide, AreSides}
 use Rattle.log_rules.proofs.Walks.{walk_of_an_end}
 use Rattle.sweep_rules.specs.SetPlaces.{AreSetPlaces}

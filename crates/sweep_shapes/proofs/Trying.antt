@@ -7,7 +7,7 @@ use Rattle.set_meaning.specs.declared.kinds.Value.{Value}
 use Rattle.set_meaning.specs.declared.problems.Constraint.{Constraint}
 use Rattle.set_meaning.specs.Relations.{Holds}
 use Rattle.sweep_shapes.specs.declared.choices.Choice.{Choice}
-use Rattle.sweep_shapes.specs.Trials.{Avoids, AreApart, AreBelow, AreChosen, IsChosen, SomeChosen, AreSameBut}
+use Rattle.sweep_shapes.specs.Trials.{Avoids, AreApart, AreBelow, IsChosen, SomeChosen, AreSameBut}
 use Rattle.sweep_shapes.proofs.Lists.{at_put, beside_put, length_put, same_or_other}
 
 -- ---- one choice more

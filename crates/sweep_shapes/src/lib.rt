@@ -5,7 +5,11 @@
 
 mod axioms;
 mod choices;
+mod parts;
+mod readings;
+mod scalars;
 mod sets;
+mod swept;
 mod trials;
 
 pub use axioms::possible;

@@ -1,22 +1,24 @@
 //! Relations between up to three set variables, read element by element.
-ghost use Rattle.std.specs.Prelude.{◌≡◌, ◌↔◌, ◌<◌, ◌≤◌, true, None, length, slice_get, Some, IsTrue, IfOk, All};
+ghost use Rattle.std.specs.Prelude.{◌≡◌, ◌↔◌, ◌<◌, ◌≤◌, pos, true, length, IsTrue, IfOk, All};
+ghost use Rattle.set_meaning.specs.declared.problems.Term.TheVariants.{Var};
 ghost use Rattle.set_meaning.specs.Problems.{IsKind};
-ghost use Rattle.set_meaning.specs.Rows.{FitsRow};
 ghost use Rattle.set_meaning.specs.Relations.{IsScope};
 ghost use Rattle.log_rules.specs.Boxes.{AreSides, SomeSatisfy};
 ghost use Rattle.log_rules.specs.Rules.{StandsIn};
 ghost use Rattle.sweep_sets.specs.Relations.{is_between_sets};
-ghost use Rattle.sweep_shapes.specs.Slots.{IsSlot, node_in};
+ghost use Rattle.sweep_shapes.specs.Slots.{AreSetVariables, IsCardinality, IsMembership, IsReading};
 
+use crate::swept::is_possible_of_shape;
 use bit_layout::Layout;
-use set_meaning::{Constraint, Kind, VarId};
+use set_meaning::{Constraint, Kind, Term, VarId};
 use std::alloc::{AllocError, Global};
-use sweep_scopes::{Slot, is_met, set_places, set_places_have_words};
+use sweep_counts::{Count, counts_are_sizes};
+use sweep_scopes::{set_places, set_places_have_words};
 use sweep_sets::SetShape;
 use sweep_table::Table;
 
-/// Whether some initial values in the sides satisfy a relation between sets, of one, two or three set variables. The shape of the relation
-/// is swept through the sides: the time is of the order of the bits times the states of the relation that occur beside nodes of the sides.
+/// Whether some initial values in the sides satisfy a constraint over one, two or three set variables that says that the
+/// relation of `read`, which is between sets, has this truth value. Time is as that of `is_possible_of_shape`.
 pub(crate) fn is_possible_of_sets(
     alloc: Global,
     kinds: &[Kind],
@@ -25,12 +27,14 @@ pub(crate) fn is_possible_of_sets(
     c: &Constraint,
     sides: &[(u64, u64)],
     variables: &[VarId],
+    read: &Constraint,
+    truth: bool,
 ) -> Result<bool, AllocError>
     requires legal { All IsKind kinds.now }
     requires layout { layout.now.kinds ≡ kinds.now }
-    requires fits { FitsRow kinds.now c.now }
-    requires between { is_between_sets c.now.relation ≡ true }
-    requires plain { c.now.reif ≡ None }
+    requires sets { AreSetVariables kinds.now variables.now }
+    requires read { IsReading kinds.now c.now variables.now read.now truth }
+    requires between { is_between_sets read.now.relation ≡ true }
     requires scope { IsScope c.now variables.now }
     requires some { 0 < length variables.now }
     requires few { length variables.now ≤ 3 }
@@ -38,44 +42,76 @@ pub(crate) fn is_possible_of_sets(
     requires named { All (λ side. StandsIn c.now side.0) sides.now }
     ensures { IfOk result (λ yes. IsTrue yes ↔ SomeSatisfy kinds.now table.now sides.now c.now) }
 {
-    set_places_have_words();
     let places = set_places(alloc, layout, variables)?;
     let listed = places.as_slice();
-    let args = c.args.items();
-    let shape = SetShape::of_relation(alloc, listed, c.relation, true, args)?;
-    let first = slot_at(sides, variables, 0);
-    let second = slot_at(sides, variables, 1);
-    let third = slot_at(sides, variables, 2);
-    let met = is_met(alloc, table, listed, &shape, first, second, third)?;
-    Ok(met)
+    let args = read.args.items();
+    let shape = SetShape::of_relation(alloc, listed, read.relation, truth, args)?;
+    is_possible_of_shape(alloc, kinds, table, c, sides, variables, listed, &shape)
 }
 
-/// The `i`-th variable with its side; where there are no more, the first with node 1.
-fn slot_at(sides: &[(u64, u64)], variables: &[VarId], i: usize) -> Slot
-    requires { 0 < length variables.now }
-    ensures { IsSlot sides.now variables.now i result }
+/// The same of a constraint which says that "the set has this element" has this truth value.
+pub(crate) fn is_possible_of_member(
+    alloc: Global,
+    kinds: &[Kind],
+    layout: &Layout,
+    table: &Table,
+    c: &Constraint,
+    sides: &[(u64, u64)],
+    variables: &[VarId],
+    read: &Constraint,
+    truth: bool,
+    member: i64,
+    set: &Term,
+) -> Result<bool, AllocError>
+    requires legal { All IsKind kinds.now }
+    requires layout { layout.now.kinds ≡ kinds.now }
+    requires sets { AreSetVariables kinds.now variables.now }
+    requires read { IsReading kinds.now c.now variables.now read.now truth }
+    requires is { IsMembership read.now member set.now }
+    requires scope { IsScope c.now variables.now }
+    requires some { 0 < length variables.now }
+    requires few { length variables.now ≤ 3 }
+    requires sides { AreSides kinds.now table.now sides.now }
+    requires named { All (λ side. StandsIn c.now side.0) sides.now }
+    ensures { IfOk result (λ yes. IsTrue yes ↔ SomeSatisfy kinds.now table.now sides.now c.now) }
 {
-    if i < variables.len() {
-        let variable = variables[i];
-        return Slot {
-            variable,
-            root: node_in(sides, variable.0),
-        };
-    }
-    Slot {
-        variable: variables[0],
-        root: 1,
-    }
+    let places = set_places(alloc, layout, variables)?;
+    let listed = places.as_slice();
+    let shape = SetShape::of_member(alloc, listed, truth, member, set)?;
+    is_possible_of_shape(alloc, kinds, table, c, sides, variables, listed, &shape)
 }
 
-/// The node of the variable's side; 1 where it has none.
-fn node_in(sides: &[(u64, u64)], v: u32) -> u64
-    ensures { result ≡ node_in sides.now v }
+/// The same of a constraint over one set variable, which says that the set has so many elements.
+pub(crate) fn is_possible_of_count(
+    alloc: Global,
+    kinds: &[Kind],
+    layout: &Layout,
+    table: &Table,
+    c: &Constraint,
+    sides: &[(u64, u64)],
+    variables: &[VarId],
+    read: &Constraint,
+    size: u64,
+    set: VarId,
+) -> Result<bool, AllocError>
+    requires legal { All IsKind kinds.now }
+    requires layout { layout.now.kinds ≡ kinds.now }
+    requires sets { AreSetVariables kinds.now variables.now }
+    requires read { IsReading kinds.now c.now variables.now read.now true }
+    requires is { IsCardinality read.now (pos size) (Var set) }
+    requires scope { IsScope c.now variables.now }
+    requires one { length variables.now ≡ 1 }
+    requires sides { AreSides kinds.now table.now sides.now }
+    requires named { All (λ side. StandsIn c.now side.0) sides.now }
+    ensures { IfOk result (λ yes. IsTrue yes ↔ SomeSatisfy kinds.now table.now sides.now c.now) }
 {
-    for side in sides {
-        if side.0 == u64::from(v) {
-            return side.1;
-        }
-    }
-    1
+    set_places_have_words();
+    counts_are_sizes();
+    let places = set_places(alloc, layout, variables)?;
+    let listed = places.as_slice();
+    let shape = Count {
+        size,
+        places: listed.len(),
+    };
+    is_possible_of_shape(alloc, kinds, table, c, sides, variables, listed, &shape)
 }

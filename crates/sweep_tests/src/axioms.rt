@@ -36,8 +36,12 @@ fn kinds(alloc: Global) -> Result<Vec<Kind>, AllocError> {
     Ok(kinds)
 }
 
-fn problem(alloc: Global, c: Constraint) -> Result<Problem, AllocError> {
-    let kinds = kinds(alloc)?;
+/// A problem of one constraint over variables of these kinds.
+pub(crate) fn problem_over(
+    alloc: Global,
+    kinds: Vec<Kind>,
+    c: Constraint,
+) -> Result<Problem, AllocError> {
     let mut names: Vec<Text> = Vec::new(alloc);
     for _kind in kinds.as_slice() {
         let name: Vec<u8> = Vec::new(alloc);
@@ -55,7 +59,7 @@ fn problem(alloc: Global, c: Constraint) -> Result<Problem, AllocError> {
 }
 
 /// What `possible` answers without sides; None where the problem is not well formed.
-fn asked(alloc: Global, p: &Problem) -> Result<Option<bool>, AllocError> {
+pub(crate) fn asked(alloc: Global, p: &Problem) -> Result<Option<bool>, AllocError> {
     if !keeps_limits(alloc, p)? {
         return Ok(None);
     }
@@ -79,7 +83,8 @@ fn decided(
         args: Listed::of(args),
         reif,
     };
-    let p = problem(alloc, c)?;
+    let kinds = kinds(alloc)?;
+    let p = problem_over(alloc, kinds, c)?;
     asked(alloc, &p)
 }
 

@@ -4,4 +4,8 @@
 #[cfg(test)]
 mod axioms;
 #[cfg(test)]
+mod large;
+#[cfg(test)]
 mod nodes;
+#[cfg(test)]
+mod relations;
