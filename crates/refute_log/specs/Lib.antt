@@ -1,1 +1,4 @@
 pub mod Writer
+pub mod Lines
+pub mod Naming
+pub mod Batches

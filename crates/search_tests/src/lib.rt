@@ -5,5 +5,3 @@
 mod answers;
 #[cfg(test)]
 mod roots;
-#[cfg(test)]
-mod writers;

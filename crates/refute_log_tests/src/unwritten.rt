@@ -1,4 +1,6 @@
 //! Writers of no log.
+ghost use Rattle.std.specs.Prelude.{IsFalse};
+
 use desk::{Desk, MemoryDesk};
 use refute_log::{LogStop, LogWriter};
 use set_meaning::{ConId, VarId};
@@ -6,7 +8,10 @@ use std::test::Fail;
 
 /// Tells the writer two boxes and their resolvent, which is learned. Answers the numbers of the first box and of the
 /// resolvent.
-fn told<D: Desk>(writer: &mut LogWriter, desk: &mut D) -> Result<(u64, u64), LogStop> {
+fn told<D: Desk>(writer: &mut LogWriter, desk: &mut D) -> Result<(u64, u64), LogStop>
+    requires off { IsFalse writer.old.on }
+    ensures off { IsFalse writer.new.on }
+{
     let sides = [(VarId(0), 0), (VarId(1), 1)];
     let axiom = writer.axiom(desk, ConId(2), &sides)?;
     let answer = writer.answer(desk, &[], &sides)?;

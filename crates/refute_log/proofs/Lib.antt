@@ -1,0 +1,5 @@
+pub mod Fronting
+pub mod Standing
+pub mod Numbering
+pub mod Keeping
+pub mod Validity
