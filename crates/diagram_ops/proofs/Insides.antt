@@ -10,7 +10,7 @@ use Rattle.diagram_arena.proofs.Meaning.{has-zero, has-one, depth-zero, induct}
 use Rattle.diagram_arena.proofs.Canonical.{has-child}
 use Rattle.diagram_ops.specs.declared.question.Question.{Question}
 use Rattle.diagram_ops.specs.Words.{without, Lies, Leaves, HasNone, HasSome}
-use Rattle.diagram_ops.specs.Steps.{side, asked, AreLive, IsAnswer, IsTold, IsStep}
+use Rattle.diagram_ops.specs.Steps.{side, asked, AreLive, IsAnswer, IsStep}
 use Rattle.diagram_ops.proofs.Steps.{first_within}
 
 -- each ref but Zero has a word
@@ -46,18 +46,10 @@ pub at_false : (b : Bool) (P Q : Type 0) → b ≡ false → MatchBool b P Q →
 at_false true P Q e is = absurd (cc)
 at_false false P Q e is = is
 
--- a set lies in another where no word is in the one and not in the other
-pub inside_told : (V W : Words) (none : Bool) → MatchBool none (HasNone (without V W)) (HasSome (without V W)) → MatchBool none (Lies V W) (Leaves V W)
-inside_told V W false found = let parts = and_parts (V found.0) (not (W found.0)) found.1 in (found.0, parts.0, not_in (W found.0) parts.1)
-inside_told V W true none = λ w in_first. in_other (V w) (W w) (none w) in_first
-
-pub turned : (b : Bool) (P Q : Type 0) → MatchBool b P Q → MatchBool (not b) Q P
-turned true P Q is = is
-turned false P Q is = is
-
-turned_back : (b : Bool) (P Q : Type 0) → MatchBool (not b) P Q → MatchBool b Q P
-turned_back true P Q is = is
-turned_back false P Q is = is
+-- whether some word is in the one set and not in the other
+pub inside_case : (V W : Words) (some : Bool) → MatchBool some (HasSome (without V W)) (HasNone (without V W)) → MatchBool (not some) (Lies V W) (Leaves V W)
+inside_case V W true found = let parts = and_parts (V found.0) (not (W found.0)) found.1 in (found.0, parts.0, not_in (W found.0) parts.1)
+inside_case V W false none = λ w in_first. in_other (V w) (W w) (none w) in_first
 
 -- an answer that is Zero says that no word is asked for, another that some is
 pub answer_some : (t : Table) → IsReduced t → (q : Question) (r : Ref) (zero : Bool) → IsAnswer t q r → (IsTrue zero ↔ (r ≡ Zero))
@@ -70,12 +62,6 @@ answer_some t ok q r false is zero =
       | inl e ↦ let wrong : false ≡ true = zero.1 e in absurd (cc)
       | inr (w, here) ↦ (w, sym (is.words w) ∙ here)
     ]
-
-pub told_by_answer : (t : Table) → IsReduced t → (q : Question) (r : Ref) (zero : Bool) → IsAnswer t q r → (IsTrue zero ↔ (r ≡ Zero)) → IsTold t q zero
-told_by_answer t ok q r zero is same = record {
-  given = is.given;
-  told = turned_back zero _ _ (answer_some t ok q r zero is same);
-}
 
 -- a word of a side is one of the whole, once its first bits are those of the side
 pub side_some : (t : Table) (q : Question) (bit : ℕ) (lo hi : Question) → IsStep t q bit lo hi → (v : Bool) → HasSome (asked t (side lo hi v)) → HasSome (asked t q)

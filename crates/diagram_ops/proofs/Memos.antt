@@ -1,6 +1,6 @@
--- The memos: their entries stay right in a table that grows, and one entry more is right too.
+-- The memo: its entries stay right in a table that grows, and one entry more is right too.
 use Rattle.std.proofs.Common.{◌≡◌, Bool, true, false, eqb, cond, ◌&&◌, List, [], Option, Some, None, Result, Ok, Err, Contains, refl, sym, ◌∙◌, ap, subst, inl, inr}
-use Rattle.std.specs.Prelude.{IfSome, OnOk, OnErr, MatchBool}
+use Rattle.std.specs.Prelude.{IfSome, OnOk, OnErr}
 use Rattle.lru.specs.LruCache.{LruCache, lru_cache, put_entries}
 use Rattle.lru.proofs.CallerLemmas.{Contains-put_entries, Contains-lookup}
 use Rattle.lru.proofs.Splits.{Contains-nil}
@@ -10,7 +10,7 @@ use Rattle.std.proofs.lemmas.Bool.{cases_Bool, eqb-true, and_parts}
 use Rattle.diagram_arena.specs.declared.nodes.Ref.{Ref}
 use Rattle.diagram_arena.specs.declared.nodes.Ref.TheVariants.{Zero, One, Node}
 use Rattle.diagram_arena.specs.contracts.nodes.RefPartialEq.TheImpl.{eq-value as of_refs}
-use Rattle.diagram_arena.specs.Table.{Word, Words, Table}
+use Rattle.diagram_arena.specs.Table.{Table}
 use Rattle.diagram_arena.specs.Arena.{Grows}
 use Rattle.diagram_arena.proofs.Ids.{same_id}
 use Rattle.diagram_ops.specs.declared.question.Op.{Op}
@@ -19,10 +19,9 @@ use Rattle.diagram_ops.specs.declared.question.Question.{Question}
 use Rattle.diagram_ops.specs.declared.question.Question.TheVariants.{Combine, Restrict}
 use Rattle.diagram_ops.specs.contracts.question.OpPartialEq.TheImpl.{eq-value as of_ops}
 use Rattle.diagram_ops.specs.contracts.question.QuestionPartialEq.TheImpl.{eq-value}
-use Rattle.diagram_ops.specs.Words.{HasNone, HasSome}
-use Rattle.diagram_ops.specs.Steps.{IsAnswer, IsTold, AreAnswers}
-use Rattle.diagram_ops.specs.Memo.{IsMemo, AreTold}
-use Rattle.diagram_ops.proofs.Steps.{answer_grows, live_grows, asked_grows}
+use Rattle.diagram_ops.specs.Steps.{IsAnswer, AreAnswers}
+use Rattle.diagram_ops.specs.Memo.{IsMemo}
+use Rattle.diagram_ops.proofs.Steps.{answer_grows}
 
 -- the derived `==`, under the name that the toolchain gives it
 abbrev pub derived : Question → Question → Bool
@@ -97,44 +96,25 @@ no_answers t es e = subst (AreAnswers t) (sym e) (λ q r is. let no : None ≡ S
 pub memo_grows : (t u : Table) (es : List (Question × Ref)) → Grows t u → IsMemo t es → IsMemo u es
 memo_grows t u es grown memo q r is = answer_grows t u grown q r (memo q r is)
 
--- each question with its value has the property
-abbrev All : {V : Type 0} → (Question → V → Type 0) → List (Question × V) → Type 0
-All {V} P es = (q : Question) (v : V) → Contains {X = Question × V} es (q, v) → P q v
+-- what is found in the memo is right
+pub recalled : (t : Table) (es : List (Question × Ref)) (q : Question) (o : Option Ref) → IsMemo t es → o ≡ lookup (derived q) es → IfSome o (IsAnswer t q)
+recalled t es q None memo is = tt
+recalled t es q (Some r) memo is =
+    let found = Contains-lookup (derived q) es r (sym is) in
+    subst (λ x. IsAnswer t x r) (sym (question_true q found.0 found.2)) (memo found.0 r found.1)
 
-module _ {V : Type 0} (P : Question → V → Type 0) where
-  -- what is found in a memo is right
-  pub recalled : (es : List (Question × V)) (q : Question) (o : Option V) → All P es → o ≡ lookup (derived q) es → IfSome o (P q)
-  recalled es q None memo is = tt
-  recalled es q (Some v) memo is =
-      let found = Contains-lookup (derived q) es v (sym is) in
-      subst (λ x. P x v) (sym (question_true q found.0 found.2)) (memo found.0 v found.1)
+-- one answer more, or a memo that is as it was
+pub memo_puts : {E : Type 0} (t : Table) (old new : LruCache Question Ref) (p : Question) (s : Ref) (o : Result (Option Ref) E) → IsMemo t old.entries → IsAnswer t p s
+    → OnOk o (new ≡ lru_cache (put_entries derived old p s) old.cap) → OnErr o (new ≡ old) → IsMemo t new.entries
+memo_puts t old new p s (Err e) memo answer put kept q r is = memo q r (subst (λ (m : LruCache Question Ref). Contains {X = Question × Ref} m.entries (q, r)) kept is)
+memo_puts t old new p s (Ok x) memo answer put kept q r is =
+    let there : Contains {X = Question × Ref} (put_entries derived old p s) (q, r) = subst (λ (m : LruCache Question Ref). Contains {X = Question × Ref} m.entries (q, r)) put is in
+    elim (Contains-put_entries derived old p s (q, r) there) [
+      | inl was ↦ memo q r was
+      | inr here ↦
+          let same : q ≡ p = elim here.1 [ inl e ↦ e | inr was ↦ sym (question_true p q was.2) ] in
+          subst (λ x. IsAnswer t x r) (sym same) (subst (IsAnswer t p) (sym here.0) answer)
+    ]
 
-  -- one entry more, or a memo that is as it was
-  pub memo_puts : {E : Type 0} (old new : LruCache Question V) (p : Question) (s : V) (o : Result (Option V) E) → All P old.entries → P p s
-      → OnOk o (new ≡ lru_cache (put_entries derived old p s) old.cap) → OnErr o (new ≡ old) → All P new.entries
-  memo_puts old new p s (Err e) memo right put kept q r is = memo q r (subst (λ (m : LruCache Question V). Contains {X = Question × V} m.entries (q, r)) kept is)
-  memo_puts old new p s (Ok x) memo right put kept q r is =
-      let there : Contains {X = Question × V} (put_entries derived old p s) (q, r) = subst (λ (m : LruCache Question V). Contains {X = Question × V} m.entries (q, r)) put is in
-      elim (Contains-put_entries derived old p s (q, r) there) [
-        | inl was ↦ memo q r was
-        | inr here ↦
-            let same : q ≡ p = elim here.1 [ inl e ↦ e | inr was ↦ sym (question_true p q was.2) ] in
-            subst (λ x. P x r) (sym same) (subst (P p) (sym here.0) right)
-      ]
-
-  pub memo_empty : All P []
-  memo_empty q v is = absurd (Contains-nil {X = Question × V} (q, v) is)
-
--- whether a question asks for no word is the same in a table that grows
-told_some : (V W : Words) (none : Bool) → ((w : Word) → W w ≡ V w) → MatchBool none (HasNone V) (HasSome V) → MatchBool none (HasNone W) (HasSome W)
-told_some V W true same is = λ w. same w ∙ is w
-told_some V W false same is = (is.0, same is.0 ∙ is.1)
-
-told_grows : (t u : Table) → Grows t u → (q : Question) (none : Bool) → IsTold t q none → IsTold u q none
-told_grows t u grown q none is = record {
-  given = live_grows t u grown q is.given;
-  told = told_some _ _ none (asked_grows t u grown q is.given) is.told;
-}
-
-pub insides_grow : (t u : Table) (es : List (Question × Bool)) → Grows t u → AreTold t es → AreTold u es
-insides_grow t u es grown memo q none is = told_grows t u grown q none (memo q none is)
+pub memo_empty : (t : Table) → IsMemo t []
+memo_empty t q r is = absurd (Contains-nil {X = Question × Ref} (q, r) is)

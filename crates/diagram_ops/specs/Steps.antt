@@ -1,5 +1,5 @@
 -- A question to diagrams, its answer, and a step of the recursion that finds it.
-use Rattle.std.specs.Prelude.{◌≡◌, ℕ, ◌+◌, ◌<◌, ◌≤◌, Bool, not, ◌&&◌, ◌||◌, ◌==◌, cond, min, if◌then◌else◌, List, Option, Some, None, Result, Err, IfOk, MatchBool}
+use Rattle.std.specs.Prelude.{◌≡◌, ℕ, ◌+◌, ◌<◌, ◌≤◌, Bool, not, ◌&&◌, ◌||◌, ◌==◌, cond, min, if◌then◌else◌, List, Option, Some, None, Result, Err, IfOk}
 use Rattle.std.specs.Map.{lookup}
 use Rattle.diagram_arena.specs.declared.nodes.Ref.{Ref}
 use Rattle.diagram_arena.specs.declared.nodes.Ref.TheVariants as ref
@@ -16,7 +16,7 @@ use Rattle.diagram_ops.specs.declared.question.Question.{Question}
 use Rattle.diagram_ops.specs.declared.question.Question.TheVariants.{Combine, Restrict}
 use Rattle.diagram_ops.specs.contracts.question.QuestionPartialEq.TheImpl.{eq-value as same_question}
 use Rattle.node_reclaim.specs.Growth.{IsFull, Stays, NewArePartsOf}
-use Rattle.diagram_ops.specs.Words.{joined, either, restricted, HasNone, HasSome, Denotes}
+use Rattle.diagram_ops.specs.Words.{joined, either, restricted, Denotes}
 
 -- an operation at one word
 abbrev pub combine : Op → Bool → Bool → Bool
@@ -48,11 +48,6 @@ pub record IsAnswer (t : Table) (q : Question) (r : Ref) : Type 0 where
   pub live : IsLive t r
   pub deep : first t q ≤ depth t r
   pub words : (w : Word) → has t r w ≡ asked t q w
-
--- whether q asks for no word, in one table
-pub record IsTold (t : Table) (q : Question) (none : Bool) : Type 0 where
-  pub given : AreLive t q
-  pub told : MatchBool none (HasNone (asked t q)) (HasSome (asked t q))
 
 -- each answer that is found is right
 abbrev pub AreAnswers : Table → List (Question × Ref) → Type 0

@@ -13,7 +13,7 @@ ghost use Rattle.node_reclaim.specs.Growth.{IsFull, words_of, Stays, NewAreParts
 ghost use Rattle.diagram_ops.specs.Words.{both, either, without, complement, Lies, Leaves, HasNone, HasSome, words_with, joined, restricted, all_but, Denotes, IsAsDeep};
 ghost use Rattle.diagram_ops.specs.declared.question.Question.{Question};
 ghost use Rattle.diagram_ops.specs.contracts.question.QuestionPartialEq.TheImpl.{eq-value as same_question};
-ghost use Rattle.diagram_ops.specs.Steps.{first, asked, AreLive, HasStep, IsAnswer, IsTold, AreAnswers, IsStep, Answered};
+ghost use Rattle.diagram_ops.specs.Steps.{first, asked, AreLive, HasStep, IsAnswer, AreAnswers, IsStep, Answered};
 
 use crate::question::{Op, Question};
 use crate::settled::settled;
@@ -26,7 +26,7 @@ use std::collections::HashMap;
 use std::marker::Model;
 use std::num::NonZeroUsize;
 
-/// A pool of nodes, and memos of results and of inclusions that change no answer.
+/// A pool of nodes, and a memo of results that changes no answer.
 ///
 /// A call that makes nodes may answer Full, where the pool holds as many nodes as its limit allows, or
 /// Memory. After either, every node that was there stands with its mark, tag and pins; nodes that the
@@ -36,7 +36,6 @@ pub struct Ops {
     alloc: Global,
     pool: Pool,
     memo: LruCache<Question, Ref>,
-    insides: LruCache<Question, bool>,
 }
 
 impl Model for Ops {
@@ -55,8 +54,7 @@ impl Model for Ops {
 
 impl Ops {
     /// A pool with no nodes, that will hold at most `limit` nodes: 1 to `MAX_LIMIT`. `cache` is the
-    /// number of results to keep in mind from call to call, 1 to 1,000,000, and as many inclusions; within one
-    /// call all are kept.
+    /// number of results to keep in mind from call to call, 1 to 1,000,000; within one call all are kept.
     /// An `Err` is want of memory.
     pub fn new(alloc: Global, limit: u32, cache: usize) -> Result<Ops, AllocError>
         requires some { 0 < limit }
@@ -70,15 +68,10 @@ impl Ops {
             Some(size) => LruCache::sparse(alloc, size)?,
             None => unreachable!(),
         };
-        let insides = match NonZeroUsize::new(cache) {
-            Some(size) => LruCache::sparse(alloc, size)?,
-            None => unreachable!(),
-        };
         Ok(Ops {
             alloc,
             pool: Pool::new(alloc, limit),
             memo,
-            insides,
         })
     }
 
@@ -212,16 +205,9 @@ impl Ops {
         ensures same { self.new ≡ self.old }
         ensures memory { IfErr result (λ stop. stop ≡ Stop.Memory) }
     {
-        let question = Question::Combine(Op::Diff, f, g);
-        match self.told(question) {
-            Some(none) => Ok(none),
-            None => {
-                let mut done = HashMap::new(self.alloc);
-                let leaves = self.asks_some(question, &mut done)?;
-                self.keep_inside(question, !leaves);
-                Ok(!leaves)
-            }
-        }
+        let mut done = HashMap::new(self.alloc);
+        let leaves = self.asks_some(Question::Combine(Op::Diff, f, g), &mut done)?;
+        Ok(!leaves)
     }
 
     /// Begins a unit of work: nodes are reclaimed between units. The count of units stops rising at 2^64 - 1.
@@ -232,12 +218,11 @@ impl Ops {
         self.pool.begin_unit();
     }
 
-    /// Empties the memos and frees each node that no pin reaches, as `Pool::reclaim`. No memory is taken.
+    /// Empties the memo and frees each node that no pin reaches, as `Pool::reclaim`. No memory is taken.
     pub fn collect(&mut self)
         ensures { Reclaims self.old self.new }
     {
         self.memo.clear();
-        self.insides.clear();
         self.pool.reclaim();
     }
 
@@ -252,7 +237,7 @@ impl Ops {
         &self.pool
     }
 
-    /// The nodes and their pins, without the memos.
+    /// The nodes and their pins, without the memo.
     pub fn into_pool(self) -> Pool
         ensures { result ≡ self }
     {
@@ -260,7 +245,6 @@ impl Ops {
             alloc: _,
             pool,
             memo: _,
-            insides: _,
         } = self;
         pool
     }
@@ -300,36 +284,15 @@ impl Ops {
         ensures step { IfNone result (HasStep (table self.now.arena) question) }
         ensures reduced { IsReduced (table self.now.arena) }
     {
-        match self.found(question, done) {
-            Some(r) => Some(r),
-            None => self.recall(question),
-        }
-    }
-
-    /// The answer, if no step is needed or `done` has it.
-    fn found(&self, question: Question, done: &HashMap<Question, Ref>) -> Option<Ref>
-        requires live { AreLive (table self.now.arena) question }
-        requires known { AreAnswers (table self.now.arena) done.now.entries }
-        ensures found { IfSome result (IsAnswer (table self.now.arena) question) }
-        ensures step { IfNone result (HasStep (table self.now.arena) question) }
-        ensures reduced { IsReduced (table self.now.arena) }
-    {
-        match self.settled(question) {
-            Some(r) => Some(r),
-            None => done.get(&question).copied(),
-        }
-    }
-
-    /// The answer, if it is seen at once.
-    fn settled(&self, question: Question) -> Option<Ref>
-        requires { AreLive (table self.now.arena) question }
-        ensures found { IfSome result (IsAnswer (table self.now.arena) question) }
-        ensures step { IfNone result (HasStep (table self.now.arena) question) }
-        ensures reduced { IsReduced (table self.now.arena) }
-    {
         // What is known of the nodes.
         let _ = self.pool();
-        settled(self.pool.arena(), question)
+        match settled(self.pool.arena(), question) {
+            Some(r) => Some(r),
+            None => match done.get(&question).copied() {
+                Some(r) => Some(r),
+                None => self.recall(question),
+            },
+        }
     }
 
     /// The answer, if the memo has it.
@@ -384,34 +347,8 @@ impl Ops {
         }
     }
 
-    /// Whether a question asks for no word, if that is seen at once or an earlier call found it.
-    fn told(&self, question: Question) -> Option<bool>
-        requires { AreLive (table self.now.arena) question }
-        ensures { IfSome result (IsTold (table self.now.arena) question) }
-    {
-        match self.settled(question) {
-            Some(r) => Some(is_zero(r)),
-            None => self.recall_inside(question),
-        }
-    }
-
-    /// Whether a question asks for no word, if the memo of inclusions has it.
-    fn recall_inside(&self, question: Question) -> Option<bool>
-        ensures { IfSome result (IsTold (table self.now.arena) question) }
-    {
-        self.insides.peek(&question).copied()
-    }
-
-    /// Keeps for later calls whether a question asks for no word. Where memory is wanting it is forgotten.
-    fn keep_inside(&mut self, question: Question, none: bool)
-        requires { IsTold (table self.old.arena) question none }
-        ensures { self.new ≡ self.old }
-    {
-        let _ = self.insides.put(question, none);
-    }
-
     /// Whether a question asks for some word, by the same recursion: no node is made. Where it asks for none,
-    /// `done` has Zero as its answer. Results of earlier calls are not looked at: they seldom have it.
+    /// `done` has Zero as its answer.
     fn asks_some(
         &self,
         question: Question,
@@ -422,7 +359,7 @@ impl Ops {
         ensures some { IfOk result (λ some. MatchBool some (HasSome (asked (table self.now.arena) question)) (HasNone (asked (table self.now.arena) question))) }
         ensures known { OnOk result (AreAnswers (table self.now.arena) done.new.entries) }
     {
-        match self.found(question, done) {
+        match self.known(question, done) {
             Some(r) => Ok(!is_zero(r)),
             None => {
                 let bit = self.first_bit(question);

@@ -1,15 +1,11 @@
 use Rattle.diagram_arena.specs.Table.{IsReduced}
 use Rattle.diagram_arena.specs.Arena.{table}
 use Rattle.diagram_ops.proofs.Results.{node_parts, node_asks, node_reach, made_unmarked, on_err_arena}
-use Rattle.diagram_ops.proofs.Memos.{memo_grows, insides_grow}
+use Rattle.diagram_ops.proofs.Memos.{memo_grows}
 use Rattle.diagram_ops.proofs.operations.Ops.node.Goals as goal
 
 pub invariant_of-self : goal.invariant_of-self
-invariant_of-self c = record {
-  reduced = c.make.ensures.reduced;
-  memo = memo_grows _ _ _ c.make.ensures.grows c.self.invariant.memo;
-  insides = insides_grow _ _ _ c.make.ensures.grows c.self.invariant.insides;
-}
+invariant_of-self c = record { reduced = c.make.ensures.reduced; memo = memo_grows _ _ _ c.make.ensures.grows c.self.invariant.memo }
 
 pub returns-clause-stays : goal.returns-clause-stays
 returns-clause-stays c = rw (← c.self.view_is) (record {

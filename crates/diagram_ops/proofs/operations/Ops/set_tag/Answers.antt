@@ -1,6 +1,6 @@
 use Rattle.std.proofs.Common.{sym, subst}
 use Rattle.diagram_arena.specs.Table.{Table, IsReduced}
-use Rattle.diagram_ops.specs.Memo.{IsMemo, AreTold}
+use Rattle.diagram_ops.specs.Memo.{IsMemo}
 use Rattle.diagram_ops.proofs.operations.Ops.set_tag.Goals as goal
 
 pub invariant_of-self : goal.invariant_of-self
@@ -9,5 +9,4 @@ invariant_of-self c =
     record {
       reduced = subst IsReduced same c.self.invariant.reduced;
       memo = subst (λ (t : Table). IsMemo t c.self.inside.memo.entries) same c.self.invariant.memo;
-      insides = subst (λ (t : Table). AreTold t c.self.inside.insides.entries) same c.self.invariant.insides;
     }
